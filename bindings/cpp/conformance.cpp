@@ -46,6 +46,23 @@ words split(std::string_view line) {
     return all;
 }
 
+// The line with the items that each {"each":COUNT,"of":ITEM} stands for.
+std::string expanded(std::string line) {
+    const std::string begin = R"({"each":)", of = R"(,"of":)", place = R"("#")";
+    for (std::size_t at = 0; (at = line.find(begin, at)) != std::string::npos;) {
+        const auto item = line.find(of, at) + of.size(), end = line.find('}', item);
+        const unsigned long count = std::stoul(line.substr(at + begin.size()));
+        std::string all;
+        for (unsigned long i = 0; i < count; ++i) {
+            std::string one = line.substr(item, end - item);
+            for (std::size_t to = 0; (to = one.find(place, to)) != std::string::npos;) one.replace(to, place.size(), std::to_string(i));
+            all.append(i ? "," : "").append(one);
+        }
+        line.replace(at, end + 1 - at, all);
+    }
+    return line;
+}
+
 std::string text(const std::string &json) { return folugben::detail::reader(json).text(); }
 std::uint32_t number(const std::string &json) { return static_cast<std::uint32_t>(std::stoull(json)); }
 std::string member(const char *name, const std::string &json) { return std::string("{\"") + name + "\":" + json + "}"; }
@@ -121,6 +138,7 @@ class replayer {
     }
     void begin_case() {
         steps_.clear();
+        moves_.clear();
         agents_.clear();
         read_.clear();
         storage_.reset();
@@ -134,6 +152,45 @@ class replayer {
         const std::uint32_t start = it.number();
         steps_.insert_or_assign(number(of[0]), std::move(it));
         return std::to_string(start);
+    }
+    // A call of the step with a move that is gathered.
+    folugben::instructions &move(const std::string &of) { return moves_[number(of)]; }
+    std::string pop_move(const words &of) {
+        moves_.insert_or_assign(number(of[1]), step(of).pop_move());
+        return "null";
+    }
+    std::string gather(const words &of) {
+        for (const std::string &it : split(of[1])) {
+            if (it.empty()) continue;
+            const words its = split(it);
+            const folugben::location at = folugben::location::of_json(its[1]);
+            const bool is_written = its[2].starts_with('{');
+            const folugben::element element = is_written ? folugben::element() : folugben::detail::reader(its[2]).element();
+            const folugben::operand what = is_written ? folugben::operand::of_json(kind(its[2]), its[2]) : folugben::operand(element);
+            folugben::detail::done(move(of[0]).try_instruct(verb(text(its[0])), at, what, its.size() > 3 ? number(its[3]) : 0));
+        }
+        return "null";
+    }
+    static asm_verb verb(const std::string &word) {
+        static const std::map<std::string, asm_verb> verbs = {{"put", ASM_PUT}, {"add", ASM_ADD}, {"remove", ASM_REMOVE},
+            {"bagadd", ASM_BAGADD}, {"bagremove", ASM_BAGREMOVE}, {"inc", ASM_INC}};
+        return verbs.at(word);
+    }
+    static asm_kind kind(const std::string &json) {
+        return json.starts_with("{\"list\"") ? ASM_KIND_LIST : json.starts_with("{\"set\"") ? ASM_KIND_SET : ASM_KIND_BAG;
+    }
+    static std::string json(const folugben::value &it) {
+        std::string out;
+        if (it.kind() == ASM_KIND_SET) return folugben::detail::json_of(it.as_set());
+        if (it.kind() == ASM_KIND_BAG) return folugben::detail::json_of(it.as_bag());
+        it.as_element().write_json(out);
+        return out;
+    }
+    std::string peek_at(const words &of) {
+        std::uint32_t at = 0;
+        folugben::value it;
+        folugben::detail::done(agent(of).try_peek(folugben::location::of_json(of[1]), at, it));
+        return "{\"number\":" + std::to_string(at) + ",\"values\":[" + json(it) + "]}";
     }
     std::string commit(const words &of) {
         const folugben::outcome it = step(of).try_commit();
@@ -158,6 +215,13 @@ class replayer {
         const auto at = reading.find("\"values\":") + 9;
         return reading.substr(at, reading.size() - at - 1);
     }
+    // The events of a journal, behind its header.
+    static std::string lines(const std::string &journal) {
+        std::string all;
+        for (std::size_t at = journal.find('\n') + 1, end; (end = journal.find('\n', at)) != std::string::npos; at = end + 1)
+            all.append(all.empty() ? "[" : ",").append(journal, at, end - at);
+        return all.empty() ? "[]" : all + "]";
+    }
     std::string audit(const std::string &run) {
         folugben::auditor auditor;
         auditor.feed(run);
@@ -175,6 +239,16 @@ class replayer {
         std::string answer = agent(of).scan_json(text(of[1]), at);
         return at == number(of[2]) ? answer : "at " + std::to_string(at);
     }
+    // Counts the element of a word. An operand has no copy of a text.
+    std::uint32_t count(const words &of) {
+        const std::string &word = of[2], own = word[0] == '"' ? text(word) : "";
+        const auto at = folugben::location::of_json(of[1]);
+        if (word[0] == '"') return step(of).count_of(at, own);
+        if (word[0] == '{') return step(of).count_of(at, folugben::operand::of_json(ASM_KIND_LIST, word));
+        if (word == "null") return step(of).count_of(at, nullptr);
+        if (word == "true" || word == "false") return step(of).count_of(at, word == "true");
+        return step(of).count_of(at, std::stoll(word));
+    }
     static asm_form form(const std::string &name) {
         static const std::map<std::string, asm_form> forms = {{"LOCATIONS", ASM_FORM_LOCATIONS}, {"MOVE", ASM_FORM_MOVE},
             {"STATE", ASM_FORM_STATE}, {"EVENT", ASM_FORM_EVENT}, {"SCRIPT", ASM_FORM_SCRIPT}};
@@ -189,6 +263,7 @@ class replayer {
     std::optional<folugben::storage> storage_;
     std::map<std::uint32_t, folugben::agent> agents_;
     std::map<std::uint32_t, folugben::step> steps_;
+    std::map<std::uint32_t, folugben::instructions> moves_; // those that are gathered, or were popped
     std::map<std::uint32_t, std::uint64_t> read_; // how many reads each agent made by itself
     bool is_recording_;
     std::string journal_;
@@ -197,12 +272,16 @@ class replayer {
         {"case", [this](const words &) { return begin_case(), ""; }},
         {"open", [this](const words &of) { return open(folugben::storage(of[0], number(of[1]))); }},
         {"next", [this](const words &of) { return open(storage_.value().next(number(of[0]))); }},
+        {"go_on", [this](const words &of) { return open(agent(of).go_on(number(of[1]))); }},
         {"agent", [this](const words &of) { return make(of, storage_.value().make_agent(number(of[0]))); }},
         {"take", [this](const words &of) { return make(of, storage_.value().take(number(of[0]))); }},
         {"give", [this](const words &of) { { folugben::agent moved = std::move(agent(of)); } return "null"; }},
+        {"abandon", [this](const words &of) { return agent(of).abandon(), "null"; }},
         {"learn", [this](const words &of) { return agent(of).learn(agents_.at(number(of[1]))), "null"; }},
         {"read", [this](const words &of) { return read(of); }},
         {"peek", [this](const words &of) { return agent(of).peek_json(of[1]); }},
+        {"peek_at", [this](const words &of) { return peek_at(of); }},
+        {"answer", [this](const words &of) { return agent(of).answer(); }},
         {"fire", [this](const words &of) {
              return member("fired", std::to_string(agent(of).fire_json("{\"fire\":" + of[1] + ",\"reads\":" + of[2] + "}", of[3])));
          }},
@@ -218,7 +297,17 @@ class replayer {
         {"end", [this](const words &of) { { folugben::step moved = std::move(step(of)); } return ""; }},
         {"get", [this](const words &of) { return values(step(of).get_json(of[1])); }},
         {"see", [this](const words &of) { return values(step(of).see_json(of[1])); }},
+        {"get_at", [this](const words &of) { return json(step(of).get(folugben::location::of_json(of[1]))); }},
+        {"push_move", [this](const words &of) { return step(of).push(move(of[1])), "null"; }},
+        {"extend_move", [this](const words &of) { return step(of).extend(move(of[1])), "null"; }},
+        {"pop_move", [this](const words &of) { return pop_move(of); }},
+        {"gather", [this](const words &of) { return gather(of); }},
+        {"unite", [this](const words &of) { return move(of[0]).unite(move(of[1])), "null"; }},
+        {"drop", [this](const words &of) { return moves_.erase(number(of[0])), "null"; }},
         {"get_all", [this](const words &of) { return step(of).scan_json(text(of[1])); }},
+        {"has", [this](const words &of) { return count(of) > 0 ? "true" : "false"; }},
+        {"count_of", [this](const words &of) { return std::to_string(count(of)); }},
+        {"size", [this](const words &of) { return std::to_string(step(of).size(folugben::location::of_json(of[1]))); }},
         {"push", [this](const words &of) { return step(of).push_json(of[1]), "null"; }},
         {"extend", [this](const words &of) { return step(of).extend_json(of[1]), "null"; }},
         {"pop", [this](const words &of) { return step(of).pop(), "null"; }},
@@ -227,6 +316,7 @@ class replayer {
         {"commit", [this](const words &of) { return commit(of); }},
         {"close", [this](const words &) { return journal_ = storage_.value().close(), "null"; }},
         {"journal", [this](const words &) { return check(journal_, recorded(journal_)); }},
+        {"lines", [this](const words &) { return lines(journal_); }},
         {"check", [this](const words &of) { return check(text(of[0]), 0); }},
         {"replay", [](const words &of) { return folugben::replay_json(text(of[0])); }},
         {"audit", [this](const words &of) { return audit(text(of[0])); }},
@@ -251,24 +341,30 @@ bool is_refused_as(const refusal &actual, const std::string &wanted) {
 int replay(const std::string &path, bool is_recording) {
     std::ifstream file(path);
     replayer calls(is_recording);
-    std::string line, name;
+    std::string line;
     int count = 0;
-    for (int number = 1; std::getline(file, line); ++number) {
-        words of = split(line);
+    std::uint32_t times = 1;
+    for (int number_of_line = 1; std::getline(file, line); ++number_of_line) {
+        words of = split(expanded(line));
         const std::string call = text(of.front());
         of.erase(of.begin());
         std::string wanted;
+        if (call == "repeat") times = number(of.front());
+        // The journal of agents that record has their reads too.
+        if (call == "repeat" || (call == "lines" && is_recording)) continue;
         if (call != "case" && call != "end") {
             wanted = of.back();
             of.pop_back();
         }
-        const std::string answer = calls.answer(call, of);
-        const bool is_error = wanted.starts_with("{\"error\":");
-        if (is_error ? !answer.empty() || !is_refused_as(calls.refused(), wanted) : answer != wanted) {
-            std::printf("%s:%d: %.300s\n  answered %s, %s %s %s\n", path.c_str(), number, line.c_str(), answer.c_str(),
+        for (; times > 0; --times) {
+            const std::string answer = calls.answer(call, of);
+            const bool is_error = wanted.starts_with("{\"error\":");
+            if (is_error ? answer.empty() && is_refused_as(calls.refused(), wanted) : answer == wanted) continue;
+            std::printf("%s:%d: %.300s\n  answered %s, %s %s %s\n", path.c_str(), number_of_line, line.c_str(), answer.c_str(),
                         calls.refused().name.c_str(), calls.refused().said.c_str(), calls.refused().numbers.c_str());
             return -1;
         }
+        times = 1;
         count += call != "case";
     }
     return count;
@@ -279,7 +375,7 @@ int replay(const std::string &path, bool is_recording) {
 int main(int count, char **of) {
     const std::string folder = count > 1 ? of[1] : "";
     int all = 0;
-    for (const char *name : {"moves", "calls", "steps", "journals"}) {
+    for (const char *name : {"moves", "calls", "polls", "steps", "gathered", "commits", "journals"}) {
         for (const bool is_recording : {false, true}) {
             const int calls = replay(folder + "/" + name + ".jsonl", is_recording);
             if (calls < 20) {

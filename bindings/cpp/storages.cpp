@@ -33,40 +33,6 @@ void destroyed_agents_are_returned() {
     WANTED(REFUSED(folugben::missing, storage.close()).number() == 4);
 }
 
-void storages_continue_from_agents() {
-    folugben::storage storage(COUNT, 2);
-    folugben::agent agent = storage.make_agent(0);
-    folugben::location count("count");
-    auto raise = [&](folugben::agent &by) {
-        by.play([&](folugben::step &step) { step.push(folugben::instructions().inc(count, 1)); });
-    };
-    raise(agent);
-    WANTED(REFUSED(folugben::error, agent.go_on(5)).code() == code::not_full);
-    raise(agent);
-    WANTED(agent.follow() == 2 && REFUSED(folugben::error, agent.go_on(0)).code() == code::capacity);
-    folugben::storage next = agent.go_on(5);
-    folugben::agent later = next.make_agent(0);
-    WANTED(later.peek(count).number() == 9 && next.moves() == 0);
-    raise(later);
-    later.follow();
-    WANTED(later.peek(count).number() == 10 && storage.moves() == 2);
-}
-
-void returned_agents_are_checked_out() {
-    folugben::storage storage(COUNT, 10);
-    WANTED(REFUSED(folugben::error, storage.take(4)).code() == code::no_agent);
-    storage.make_agent(4).play(empty_move);
-    WANTED(folugben::check(storage.close()).calls == 1);
-    {
-        folugben::agent agent = storage.take(4);
-        WANTED(agent.won() == 1 && REFUSED(folugben::error, storage.take(4)).code() == code::no_agent);
-        WANTED(REFUSED(folugben::missing, storage.close()).number() == 1);
-        agent.play(empty_move);
-    }
-    auto verdict = folugben::check(storage.close());
-    WANTED(verdict.is_legal && verdict.calls == 2 && verdict.moves == 2);
-}
-
 // Two parts: 2 calls and 2 moves, and 1 call without a move.
 std::string two_parts() {
     folugben::storage storage(COUNT, 2);
@@ -366,8 +332,6 @@ void moved_commits_fire() {
 
 int main() {
     destroyed_agents_are_returned();
-    storages_continue_from_agents();
-    returned_agents_are_checked_out();
     runs_are_audited_as_their_bytes_come();
     the_first_fault_of_a_run_is_reported_with_its_place();
     steps_stay_valid_when_their_agents_are_moved();

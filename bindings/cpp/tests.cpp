@@ -21,30 +21,6 @@ static_assert(noexcept(std::declval<folugben::step &>().try_extend(std::declval<
 static_assert(!std::is_convertible_v<std::uint64_t, folugben::element> && !std::is_convertible_v<double, folugben::element>);
 static_assert(!std::is_convertible_v<std::uint64_t, folugben::operand> && !std::is_convertible_v<double, folugben::operand>);
 
-void steps_fire_as_one_move() {
-    folugben::storage storage(COUNT, 10);
-    folugben::agent agent = storage.make_agent(0);
-    folugben::location count("count"), name("name", "a", 1);
-    folugben::step step = agent.begin();
-    WANTED(step.get(count).number() == 7 && step.get(name).is_undef());
-    folugben::instructions move;
-    step.push(move.put(count, 8).put(name, "a text"));
-    step.extend(move.clear().inc(count, -3));
-    step.push_json(R"([["put",["set"],{"set":[1,2]}]])");
-    WANTED(step.depth() == 2 && step.get(count).number() == 5 && step.get(name).text() == "a text");
-    WANTED(step.get_json(R"([["set"]])") == R"({"number":0,"values":[{"set":[1,2]}]})");
-    WANTED(step.scan_json("name") == R"([[["name","a",1],"a text"]])");
-    step.pop();
-    step.push(move.clear());
-    step.extend(move);
-    WANTED(step.depth() == 2);
-    step.pop();
-    WANTED(step.commit() == 1 && step.depth() == 0);
-    WANTED(agent.follow() == 1 && agent.peek(count).number() == 5 && agent.won() == 1);
-    WANTED(agent.read_json(R"([["count"]])") == R"({"number":1,"values":[5]})");
-    WANTED(agent.fire_json(R"({"fire":[["inc",["count"],1]],"reads":[[["count"],1]]})") == 2);
-}
-
 void values_are_read_by_their_kinds() {
     folugben::storage storage("[]", 10);
     folugben::agent agent = storage.make_agent(0);
@@ -158,6 +134,30 @@ void sets_bags_and_scans_are_read() {
 }
 
 // A loop by hand begins again at a conflict, and at nothing else.
+void elements_are_counted() {
+    folugben::storage storage(R"([[["b"],{"bag":[["a",2]]}],[["n"],7],[["s"],{"set":[1,{"list":[true]}]}]])", 10);
+    folugben::agent agent = storage.make_agent(0);
+    folugben::location s("s"), b("b"), n("n"), none("none");
+    folugben::step step = agent.begin();
+    folugben::instructions move;
+    WANTED(step.has(s, 1) && step.has(s, folugben::list{true}) && !step.has(s, "1") && !step.has(none, nullptr));
+    WANTED(step.count_of(b, "a") == 2 && step.size(b) == 2 && step.size(s) == 2 && step.size(none) == 0);
+    step.push(move.bag_add(b, 5, UINT32_MAX).remove(s, 1));
+    WANTED(step.count_of(b, 5) == UINT32_MAX && step.size(b) == 2 + std::uint64_t{UINT32_MAX} && !step.has(s, 1) && step.size(s) == 1);
+    step.pop();
+    WANTED(step.offer_json() == R"({"fire":[],"reads":[[["b"],0],[["none"],0],[["s"],0]]})");
+    std::uint32_t count = 9;
+    std::uint64_t size = 9;
+    WANTED(step.try_count_of(n, 1, count) == code::shape && count == 0 && step.try_size(n, size) == code::shape && size == 0);
+    WANTED(step.offer_json() == R"({"fire":[],"reads":[[["b"],0],[["n"],0],[["none"],0],[["s"],0]]})");
+    const auto other = REFUSED(folugben::error, step.has(n, 1));
+    WANTED(other.code() == code::shape && std::string(other.what()).find("the value is no set and no bag") != std::string::npos);
+    WANTED(REFUSED(folugben::error, step.size(n)).code() == code::shape);
+    const auto text = REFUSED(folugben::error, step.has(s, "\xc3"));
+    WANTED(text.code() == code::shape && std::string(text.what()).find("the text isn't UTF-8") != std::string::npos);
+    WANTED(REFUSED(folugben::error, step.has(s, folugben::set{1})).code() == code::operand);
+}
+
 void conflicts_are_played_again() {
     folugben::storage storage(R"([[["bag"],{"bag":[["e",1]]}]])", 100);
     folugben::agent one = storage.make_agent(0), other = storage.make_agent(1);
@@ -234,31 +234,6 @@ void rules_may_commit() {
     folugben::step kept = agent.begin();
     WANTED(REFUSED(folugben::error, agent.play([&](folugben::step &step) { kept = std::move(step); })).code() == code::empty);
     WANTED(agent.follow() == 3 && agent.peek(count).number() == 10);
-}
-
-void moves_are_popped_seen_and_offered() {
-    folugben::storage storage(COUNT, 10);
-    folugben::agent agent = storage.make_agent(0), other = storage.make_agent(1);
-    folugben::location count("count");
-    folugben::step step = agent.begin();
-    WANTED(REFUSED(folugben::error, step.pop_move()).code() == code::no_push);
-    step.push(folugben::instructions().inc(count, 1));
-    step.extend(folugben::instructions().inc(count, 2));
-    WANTED(step.see_json(R"([["count"]])") == R"({"number":0,"values":[10]})");
-    folugben::instructions move = step.pop_move();
-    // Two of the popped moves change it.
-    WANTED(move.size() == 1 && step.depth() == 0 && step.offer_json() == R"({"fire":[],"reads":[[["count"],0]]})");
-    folugben::step again = agent.begin();
-    again.push(move);
-    WANTED(again.offer_json() == R"({"fire":[["inc",["count"],3]],"reads":[]})");
-    WANTED(again.pop_move().size() == 1);
-    again.push(move.inc(count, 10));
-    WANTED(move.size() == 2 && again.depth() == 1);
-    WANTED(REFUSED(folugben::error, again.see_json("[")).code() == code::not_json);
-    // What was seen isn't named, nor a move of one instruction that was popped.
-    WANTED(other.fire_json(R"({"fire":[["put",["count"],100]],"reads":[]})") == 1 && again.commit() == 2);
-    WANTED(other.play([&](folugben::step &it) { it.push(move); }).number == 3);
-    WANTED(other.follow() == 3 && other.peek(count).number() == 126);
 }
 
 void moves_are_united() {
@@ -379,16 +354,15 @@ void refusals_name_the_fault() {
 } // namespace
 
 int main() {
-    steps_fire_as_one_move();
     values_are_read_by_their_kinds();
     lists_sets_and_bags_are_operands();
     numbers_are_numbers();
     elements_are_in_the_order_of_the_storage();
     sets_bags_and_scans_are_read();
+    elements_are_counted();
     conflicts_are_played_again();
     plays_return_what_their_rules_do();
     rules_may_commit();
-    moves_are_popped_seen_and_offered();
     moves_are_united();
     stale_and_short_steps_are_played_again();
     plays_end_with_their_patience();

@@ -22,6 +22,8 @@ static struct {
     __typeof__(asm_commit_recorded) *commit_recorded;
     __typeof__(asm_peek_at) *peek_at;
     __typeof__(asm_get_at) *get_at;
+    __typeof__(asm_count_of) *count_of;
+    __typeof__(asm_size) *size;
     __typeof__(asm_instruct) *instruct;
     __typeof__(asm_push_move) *push_move;
     __typeof__(asm_extend_move) *extend_move;
@@ -70,6 +72,15 @@ static jint JNICALL quick_get_at(
     return library.get_at(AT(agent), AT(step), AT(at), AT(value), AT(out), (size_t)room, AT(written));
 }
 
+static jint JNICALL quick_count_of(
+    OWN, jlong agent, jlong step, jlong at, jint kind, jlong number, jlong bytes, jlong len, jlong count) {
+    return library.count_of(AT(agent), AT(step), AT(at), kind, number, AT(bytes), (size_t)len, AT(count));
+}
+
+static jint JNICALL quick_size(OWN, jlong agent, jlong step, jlong at, jlong size) {
+    return library.size(AT(agent), AT(step), AT(at), AT(size));
+}
+
 static jint JNICALL quick_instruct(
     OWN, jlong move, jlong at, jint verb, jint kind, jlong number, jlong bytes, jlong len, jint amount) {
     return library.instruct(AT(move), AT(at), verb, kind, number, AT(bytes), (size_t)len, (uint32_t)amount);
@@ -101,6 +112,8 @@ static const struct {
     {{"asm_commit_recorded", "(JJJ)I", (void *)quick_commit_recorded}, &library.commit_recorded},
     {{"asm_peek_at", "(JJJJJJJ)I", (void *)quick_peek_at}, &library.peek_at},
     {{"asm_get_at", "(JJJJJJJ)I", (void *)quick_get_at}, &library.get_at},
+    {{"asm_count_of", "(JJJIJJJJ)I", (void *)quick_count_of}, &library.count_of},
+    {{"asm_size", "(JJJJ)I", (void *)quick_size}, &library.size},
     {{"asm_instruct", "(JJIIJJJI)I", (void *)quick_instruct}, &library.instruct},
     {{"asm_push_move", "(JJJJJJ)I", (void *)quick_push_move}, &library.push_move},
     {{"asm_extend_move", "(JJJJJJ)I", (void *)quick_extend_move}, &library.extend_move},

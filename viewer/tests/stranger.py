@@ -276,6 +276,54 @@ def try_directions(tries: Tries, browser: Browser) -> None:
     browser.restore()
 
 
+# What a page would run, or be changed by, that inserts it as markup, into a script, or as a name of JavaScript.
+TEXTS = (
+    "<script>window.hit=1</script>", "</script><script>window.hit=1</script>", "<img src=x onerror=window.hit=1>", "<svg onload=window.hit=1>",
+    '"><img src=x onerror=window.hit=1>', "' onmouseover='window.hit=1", '<iframe srcdoc="<script>parent.hit=1</script>">',
+    '<a href="javascript:window.hit=1">a</a>', "javascript:window.hit=1", "${window.hit=1}", "`${window.hit=1}`", "{{window.hit=1}}", "<!--", "-->", "]]>",
+    '<base href="https://example.org/">', '<meta http-equiv="refresh" content="0;url=https://example.org/">', "<style>*{display:none}</style>",
+    "<template><script>window.hit=1</script></template>", "&lt;img src=x onerror=window.hit=1&gt;", "__proto__",
+)
+# What such a text would leave in the page.
+TRACES = """
+const tags = "img, iframe, base, meta, style, script, template, object, embed, link, a[href^='javascript'], [onmouseover], [onerror], [onload]";
+return [window.hit === undefined && ({}).hit === undefined, document.querySelectorAll(tags).length, document.getElementById("main").hidden];
+"""
+
+
+def try_texts(tries: Tries, browser: Browser) -> None:
+    """Test hostile texts as opening values, arguments, values, elements of sets, of bags and of lists, and as a file's name."""
+    fire = lambda *move: {"fire": list(move), "reads": []}
+    events = [(0, fire(["put", ["a", it], it], ["put", ["l", it], {"list": [it, {"list": [it]}]}], ["add", ["s"], it], ["bagadd", ["b"], it, 1]), {"fired": n})
+              for n, it in enumerate(TEXTS, 1)]
+    history = journal_of(*events, init=[*([["o", it], it] for it in TEXTS), [["s"], {"set": []}], [["b"], {"bag": []}]])
+    browser.load(tries.trace("plain", warehouse(3, 4, 1)))
+    before = browser.run(TRACES)
+    browser.load(tries.trace("texts", history))
+    for _ in TEXTS:
+        browser.press(Keys.ARROW_RIGHT)
+    tries.same(f"of {len(TEXTS)} hostile texts none leaves an element or runs", browser.run(TRACES), before)
+    shown = browser.run("return [...document.querySelectorAll('#state [title], #detail [title]')].map(it => it.title).join('\\n') + document.getElementById('state').textContent")
+    tries.same("each is shown as a text", [it for it in TEXTS if json.dumps(it) not in shown], [])
+    for text in TEXTS:
+        browser.write("state-find", text)
+        browser.run("renewWatch(arguments[0]); showWatch()", f'a({json.dumps(text)}) = {json.dumps(text)}')
+    tries.same("nor does one that is searched, or in a condition", browser.run(TRACES), before)
+    browser.write("state-find", "")
+    view, page = View(tries.room / "texts"), tries.room / "texts.html"
+    tries.same("./view takes them", view("--page", str(page), text=write_journal(history)).returncode, 0)
+    browser.open(page)
+    browser.until("return !document.getElementById('main').hidden")
+    browser.press(Keys.END)
+    tries.same("nor in the page that ./view writes", browser.run(TRACES), before)
+    for text in TEXTS:
+        browser.run("""const files = new DataTransfer(); files.items.add(new File([arguments[0]], arguments[1]));
+          document.body.dispatchEvent(new DragEvent("drop", { bubbles: true, cancelable: true, dataTransfer: files }))""", write_trace(history).decode(), text)
+        browser.until(f"return document.getElementById('name').textContent.length === {len(text)}")
+        tries.same(f"nor as a file's name: {text}", (browser.run(TRACES), browser.run("return document.title")), (before, f"{text} – Folugben"))
+    tries.same("no problem is reported", browser.problems(), [])
+
+
 def try_unseen(tries: Tries, browser: Browser) -> None:
     signs = "\u00ad\u034f\u061c\u115f\u1680\u17b4\u180e\u2000\u200b\u202e\u2066\u2800\u3000\u3164\ufe0f\uffa0\ufff9\U000e0041\u00a0"
     history = journal_of((0, {"fire": [["put", ["x", f"a{it}b"], f"a{it}b"] for it in signs], "reads": []}, {"fired": 1}))

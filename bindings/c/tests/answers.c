@@ -1,4 +1,4 @@
-/* Tests of the answers to agents, and of what a refused call leaves of the last answer. */
+/* Texts that are no calls leave the last answer, and the slots. What other calls leave is in bindings/conformance/polls.jsonl. */
 #include "tests.h"
 
 static const char *const opening = "[[['s'],{'set':[1,'two']}],[['x'],7]]";
@@ -39,9 +39,6 @@ static void reads(void) {
 }
 
 #define PUT "{'fire':[['put',['y'],1]],'reads':[[['x'],0]]}"
-#define CLASHES "{'fire':[['put',['y'],1],['put',['y'],2]],'reads':[]}"
-#define PHANTOM "{'fire':[['put',['t',1],5]],'reads':[]}"
-#define STALE "{'stale':['t',1]}"
 
 /* A fire of an agent, over scans if there are some: its code and number, and the agent's last
  * answer then, if it has one. */
@@ -53,34 +50,18 @@ static const struct fires {
     const char *answer;
 } fires[] = {
     {0, PUT, "[['x',0]]", ASM_DONE, 1, "{'fired':1}"},
-    /* A scan at a future number is refused before a poll. */
-    {1, PHANTOM, "[['t',1]]", ASM_AHEAD, 0, NULL},
-    /* A location of a scanned function receives a value; it had none. */
-    {1, PHANTOM, "[['x',0],['t',0]]", ASM_DONE, 2, "{'fired':2}"},
-    {0, PUT, "[['t',2]]", ASM_AHEAD, 0, "{'fired':1}"},
-    {0, PUT, "[['x',0],['t',0]]", ASM_STALE, 0, STALE},
-    {0, PUT, "[['t',1],['x',0]]", ASM_STALE, 0, STALE},
-    {0, PUT, "[['x',2],['t',2]]", ASM_FULL, 0, "'full'"},
-    {0, CLASHES, "[['t',2]]", ASM_CLASH, 0, "{'clash':[['y'],'Two']}"},
-    {0, CLASHES, "[['t',1]]", ASM_STALE, 0, STALE},
-    {0, PUT, "[]", ASM_FULL, 0, "'full'"},
-    {0, PUT, "[['x',0],['t',3]]", ASM_AHEAD, 0, "'full'"},
-    {0, "{'fire':[],'reads':[[['x'],3]]}", "[['t',2]]", ASM_AHEAD, 0, "'full'"},
-    {0, "{", "[['t',2]]", ASM_NOT_JSON, 0, "'full'"},
-    {0, "{'read':[]}", "[['t',2]]", ASM_SHAPE, 0, "'full'"},
-    {0, "{'read':[]}", "[", ASM_SHAPE, 0, "'full'"},
-    {0, PUT, "", ASM_NOT_JSON, 0, "'full'"},
-    {0, PUT, "{}", ASM_SHAPE, 0, "'full'"},
-    {0, PUT, "['t']", ASM_SHAPE, 0, "'full'"},
-    {0, PUT, "[['t',2,2]]", ASM_SHAPE, 0, "'full'"},
-    {0, PUT, "[[['t'],2]]", ASM_SHAPE, 0, "'full'"},
-    {0, PUT, "[['t',-1]]", ASM_SHAPE, 0, "'full'"},
-    {0, PUT, "[['t',4294967296]]", ASM_SHAPE, 0, "'full'"},
+    {0, "{", "[['t',1]]", ASM_NOT_JSON, 0, "{'fired':1}"},
+    {0, "{'read':[]}", "[['t',1]]", ASM_SHAPE, 0, "{'fired':1}"},
+    {0, "{'read':[]}", "[", ASM_SHAPE, 0, "{'fired':1}"},
+    {0, PUT, "", ASM_NOT_JSON, 0, "{'fired':1}"},
+    {0, PUT, "[", ASM_NOT_JSON, 0, "{'fired':1}"},
+    {0, PUT, "{}", ASM_SHAPE, 0, "{'fired':1}"},
     /* Calls without scans. */
-    {0, "{", NULL, ASM_NOT_JSON, 0, "'full'"},
-    {0, "{'fire':[]}", NULL, ASM_SHAPE, 0, "'full'"},
-    {0, "{'read':[]}", NULL, ASM_SHAPE, 0, "'full'"},
-    {0, "{'fire':[],'reads':[[['x'],1],[['x'],3]]}", NULL, ASM_AHEAD, 0, "'full'"},
+    {0, "{", NULL, ASM_NOT_JSON, 0, "{'fired':1}"},
+    {0, "{'fire':[]}", NULL, ASM_SHAPE, 0, "{'fired':1}"},
+    {0, "{'read':[]}", NULL, ASM_SHAPE, 0, "{'fired':1}"},
+    {0, "{'fire':[],'reads':[[['x'],1],[['x'],3]]}", NULL, ASM_AHEAD, 0, "{'fired':1}"},
+    {1, "{", NULL, ASM_NOT_JSON, 0, NULL},
 };
 
 static void fires_as(const struct fires *row) {
@@ -105,30 +86,6 @@ static void each_fire(void) {
     end_all();
 }
 
-/* At most 256 locations and scans are named together. */
-static void many_scans(void) {
-    static const struct {
-        int scanned, named;
-        int32_t code;
-    } rows[] = {{256, 0, ASM_DONE}, {128, 128, ASM_DONE}, {129, 128, ASM_MANY}, {257, 0, ASM_MANY}};
-    for (size_t i = 0; i < sizeof rows / sizeof *rows; i++) {
-        char call[2 * LONGEST], scans[2 * LONGEST];
-        asm_numbers numbers;
-        char *at = call + sprintf(call, "{\"fire\":[],\"reads\":[");
-        for (int k = 0; k < rows[i].named; k++)
-            at += sprintf(at, "%s[[\"x\"],0]", k ? "," : "");
-        sprintf(at, "]}");
-        at = scans + sprintf(scans, "[");
-        for (int k = 0; k < rows[i].scanned; k++)
-            at += sprintf(at, "%s[\"t\",0]", k ? "," : "");
-        sprintf(at, "]");
-        begin_all();
-        REQUIRE(asm_try_fire_over(&agents[0], bytes(call), strlen(call), bytes(scans),
-                                  strlen(scans), &numbers) == rows[i].code);
-        end_all();
-    }
-}
-
 /* A slot without an agent fires nothing over scans. */
 static void on_nothing(struct asm_agent *agent) {
     asm_slot was = agent->slot;
@@ -137,32 +94,14 @@ static void on_nothing(struct asm_agent *agent) {
     REQUIRE(numbers.fired == 0 && numbers.from == 0 && numbers.to == 0 && is_same(*agent, was));
 }
 
-static void counts(struct asm_agent *agent, uint32_t seen, uint32_t won, uint64_t misses) {
-    REQUIRE(asm_seen(agent) == seen && asm_won(agent) == won && asm_misses(agent) == misses);
-}
-
-/* An agent that learns has seen what the other has, without a poll; neither call counts one. */
-static void learning(void) {
-    begin_all();
-    fire(&agents[0], "[['inc',['x'],3]]");
-    counts(&agents[1], 0, 0, 0);
-    REQUIRE(asm_learn(&agents[1], &agents[0]) == ASM_DONE);
-    counts(&agents[0], 1, 1, 1);
-    counts(&agents[1], 1, 0, 0);
-    ANSWERS(ASM_NO_ANSWER, asm_answer(&agents[1], OUT));
-    end_all();
-}
-
 int main(void) {
     struct asm_agent empty = {0};
     reads();
     each_fire();
-    many_scans();
     begin_all();
     on_nothing(AS(agent, &storage));
     end_all();
     on_nothing(&empty);
-    learning();
     puts("passed");
     return 0;
 }

@@ -1,200 +1,31 @@
-/* Commits of steps: what they fire and leave, and when an agent's own state has moved on. */
+/* Steps that two agents share, or agents of two storages, commits that record and are refused, and steady memory. What else
+ * commits fire and leave is in bindings/conformance/commits.jsonl. */
 #include "commits.h"
 
 #include <sys/resource.h>
 
-/* Five gets, two pushes and polls of each kind leave only the receipt of the commit, which names
- * what was read by gets, and not what was scanned. */
-static void one_receipt(void) {
-    uint32_t number;
-    begin_with(8);
-    gets("['x']", 0, "7");
-    push("[['put',['x'],8],['inc',['c'],2]]");
-    gets("['x']", 0, "8");
-    gets("['y']", 0, "9");
-    WRITES(ASM_DONE, "[[['c'],2]]", asm_step_scan(&agents[0], &step, TEXT("c"), OUT));
-    push("[['inc',['x'],1],['add',['s'],2]]");
-    gets("['x']", 0, "9");
-    WRITES(ASM_DONE, "{'number':0,'values':[7]}", asm_peek(&agents[0], TEXT("[['x']]"), OUT));
-    ANSWERS(ASM_DONE, asm_stands(&agents[0], TEXT("[[['x'],0]]"), OUT));
-    REQUIRE(asm_follow(&agents[0], &number) == ASM_DONE && number == 0);
-    gets("['s']", 0, "{'set':[1,2]}");
-    WRITES(ASM_DONE, "{'number':0,'values':[2,null]}",
-           asm_see(&agents[0], &step, TEXT("[['c'],['none']]"), OUT));
-    WRITES(ASM_DONE,
-           "{'fire':[['inc',['c'],2],['add',['s'],2],['put',['x'],9]],"
-           "'reads':[[['s'],0],[['x'],0],[['y'],0]]}",
-           asm_offer(&step, OUT));
-    fired(1);
-    journal_is("{'agent':0,'call':{'fire':[['inc',['c'],2],['add',['s'],2],['put',['x'],9]],"
-               "'reads':[[['s'],0],[['x'],0],[['y'],0]]},'reply':{'fired':1}}\n",
-               1, 1);
-    end_all();
-}
-
-/* An offer is the one move with what the commit would name by now, in the form of a fire; the
- * step stays. */
-static void offers(void) {
-    const char *offer = "{'fire':[['inc',['c'],3]],'reads':[[['c'],0],[['none'],0]]}";
-    asm_numbers numbers;
-    begin_with(8);
-    WRITES(ASM_DONE, "{'fire':[],'reads':[]}", asm_offer(&step, OUT));
-    push("[['inc',['c'],1]]");
-    WRITES(ASM_DONE, "{'fire':[['inc',['c'],1]],'reads':[]}", asm_offer(&step, OUT));
-    push("[['inc',['c'],2]]");
-    gets("['none']", 0, "null");
-    WRITES(ASM_DONE, "[[['x'],7]]", asm_step_scan(&agents[0], &step, TEXT("x"), OUT));
-    WRITES(ASM_DONE, offer, asm_offer(&step, OUT));
-    REQUIRE(asm_try_fire(&agents[1], TEXT(offer), &numbers) == ASM_DONE);
-    REQUIRE(asm_try_fire(&agents[1], TEXT(offer), &numbers) == ASM_STALE);
-    /* It is of the step's number, whatever was fired since. */
-    refused(ASM_STALE, "{'stale':['c']}");
-    WRITES(ASM_DONE, offer, asm_offer(&step, OUT));
-    pop();
-    WRITES(ASM_DONE, "{'fire':[['inc',['c'],1]],'reads':[[['c'],0],[['none'],0]]}",
-           asm_offer(&step, OUT));
-    refused(ASM_STALE, "{'stale':['c']}");
-    begins_at(1);
-    fired(2);
-    ANSWERS(ASM_EMPTY, asm_offer(&step, OUT));
-    end_all();
-}
-
-/* A step without moves fires the empty one, naming all tracked reads. */
-static void empty_steps(void) {
-    begin_with(8);
-    fired(1);
-    begins_at(1);
-    gets("['x']", 1, "7");
-    push("[['put',['x'],1]]");
-    pop();
-    fired(2);
-    journal_is("{'agent':0,'call':{'fire':[],'reads':[]},'reply':{'fired':1}}\n"
-               "{'agent':0,'call':{'fire':[],'reads':[[['x'],1]]},'reply':{'fired':2}}\n",
-               2, 2);
-    end_all();
-}
-
-/* A rival writes a tracked location. The step stays; the agent's state, which followed, has
- * moved. */
-static void stale_reads(void) {
-    begin_with(8);
-    gets("['x']", 0, "7");
-    push("[['put',['y'],1]]");
-    fire(&agents[1], "[['put',['x'],70]]");
-    refused(ASM_STALE, "{'stale':['x']}");
-    refused(ASM_STALE, "{'stale':['x']}");
-    ANSWERS(ASM_MOVED, asm_get(&agents[0], &step, TEXT("[['x']]"), OUT));
-    begins_at(1);
-    gets("['x']", 1, "70");
-    gets("['y']", 1, "9");
-    push("[['put',['y'],2]]");
-    fired(2);
-    end_all();
-}
-
-/* A step that is begun again drops what was read, pushed and popped. */
-static void step_begins_again(void) {
-    begin_with(8);
-    gets("['x']", 0, "7");
-    push("[['add',['s'],2]]");
-    push("[['inc',['c'],1]]");
-    pop();
-    begins_at(0);
-    fire(&agents[1], "[['inc',['x'],1],['inc',['c'],1]]");
-    fired(2);
-    end_all();
-}
-
-static void moved(void) {
-    asm_slot was[2] = {agents[0].slot, step.slot};
-    uint32_t depth = asm_depth(&step);
-    ANSWERS(ASM_MOVED, asm_get(&agents[0], &step, TEXT("[]"), OUT));
-    ANSWERS(ASM_MOVED, asm_see(&agents[0], &step, TEXT("[]"), OUT));
-    ANSWERS(ASM_MOVED, asm_step_scan(&agents[0], &step, TEXT("x"), OUT));
-    ANSWERS(ASM_MOVED, asm_push(&agents[0], &step, TEXT("[]"), OUT));
-    ANSWERS(ASM_MOVED, asm_extend(&agents[0], &step, TEXT("[['inc',['c'],1]]"), OUT));
-    REQUIRE(is_same(agents[0], was[0]) && is_same(step, was[1]) && asm_depth(&step) == depth);
-}
-
-/* How an agent's state may move on to what a rival has fired. */
-static void reads_on(void) { REQUIRE(asm_read(&agents[0], TEXT("[]")) == ASM_DONE); }
-
-static void follows_on(void) {
-    uint32_t number;
-    REQUIRE(asm_follow(&agents[0], &number) == ASM_DONE);
-}
-
 static void polls_agent(void) { ANSWERS(ASM_DONE, asm_stands(&agents[0], TEXT("[]"), OUT)); }
 
-static void fires_stale(void) {
-    asm_numbers numbers;
-    REQUIRE(asm_try_fire(&agents[0], TEXT("{'fire':[],'reads':[[['y'],0]]}"), &numbers) ==
-            ASM_STALE);
-}
-
-static void fires_on(void) {
-    asm_numbers numbers;
-    REQUIRE(asm_try_fire(&agents[0], TEXT("{'fire':[],'reads':[[['x'],0]]}"), &numbers) ==
-            ASM_DONE);
-}
-
-static void begins_another(void) {
-    struct asm_step another = {0};
-    uint32_t number;
-    REQUIRE(asm_begin(&agents[0], &another, &number) == ASM_DONE && number > 0);
-    asm_free_step(&another);
-}
-
-/* An agent whose state has moved on neither gets nor pushes; what doesn't move it leaves the
- * step unchanged. A pop and both commits still work: they name everything at the step's number. */
-static void moved_agents(void) {
-    void (*moves[])(void) = {reads_on,    follows_on, polls_agent,
-                             fires_stale, fires_on,   begins_another};
-    enum { MOVES = sizeof moves / sizeof *moves };
-    for (size_t i = 0; i < 2 * MOVES; i++) {
+/* An agent whose state has moved on as it began another step neither gets nor pushes on the first; a pop and both commits still
+ * work. */
+static void another_step(void) {
+    for (int is_recorded = 0; is_recorded < 2; is_recorded++) {
+        struct asm_step another = {0};
+        uint32_t number = 9;
         begin_with(8);
         gets("['x']", 0, "7");
         push("[['inc',['c'],1]]");
         push("[['inc',['c'],1]]");
-        reads_on();
-        follows_on();
-        polls_agent();
-        gets("['x']", 0, "7");
         fire(&agents[1], "[['put',['y'],1]]");
-        REQUIRE(asm_learn(&agents[0], &agents[1]) == ASM_DONE && asm_seen(&agents[0]) == 1);
         gets("['c']", 0, "2");
-        moves[i % MOVES]();
-        moved();
+        REQUIRE(asm_begin(&agents[0], &another, &number) == ASM_DONE && number == 1);
+        ANSWERS(ASM_MOVED, asm_get(&agents[0], &step, TEXT("[]"), OUT));
+        ANSWERS(ASM_MOVED, asm_push(&agents[0], &step, TEXT("[]"), OUT));
         pop();
-        moved();
-        fired_by(i < MOVES ? asm_commit : asm_commit_recorded, asm_seen(&agents[0]) + 1);
-        begins_at(asm_seen(&agents[0]));
-        gets("['c']", asm_seen(&agents[0]), "1");
+        fired_by(is_recorded ? asm_commit_recorded : asm_commit, 2);
+        asm_free_step(&another);
         end_all();
     }
-}
-
-/* As many moves as the capacity; and a step that is abandoned leaves nothing. */
-static void full_storages(void) {
-    begin_with(1);
-    push("[['put',['x'],1]]");
-    asm_free_step(&step);
-    REQUIRE(!step.slot.full && step.slot.at == NULL && asm_depth(&step) == 0);
-    begins_at(0);
-    push("[['put',['x'],2]]");
-    fire(&agents[1], "[]");
-    refused(ASM_FULL, "'full'");
-    begins_at(1);
-    gets("['x']", 1, "7");
-    push("[['inc',['x'],1]]");
-    gets("['x']", 1, "8");
-    refused(ASM_FULL, "'full'");
-    journal_is("{'agent':1,'call':{'fire':[],'reads':[]},'reply':{'fired':1}}\n"
-               "{'agent':0,'call':{'fire':[['put',['x'],2]],'reads':[]},'reply':'full'}\n"
-               "{'agent':0,'call':{'fire':[['inc',['x'],1]],'reads':[[['x'],1]]},'reply':'full'}\n",
-               3, 1);
-    end_all();
 }
 
 /* Two agents of one storage at one number may share a step; one at another number can't. */
@@ -369,13 +200,7 @@ static void steady_memory(void) {
 }
 
 int main(void) {
-    one_receipt();
-    offers();
-    empty_steps();
-    stale_reads();
-    step_begins_again();
-    moved_agents();
-    full_storages();
+    another_step();
     shared_steps();
     agents_behind();
     steps_of_another_storage();

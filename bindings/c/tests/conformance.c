@@ -1,93 +1,7 @@
-/* Makes the calls of the tables in bindings/conformance, and compares each answer, byte for byte. usage: conformance FOLDER */
-#include "conformance.h"
-
-#include <inttypes.h>
-
-static struct asm_storage *storage;
-static struct asm_agent *agents[AGENTS];
-static struct asm_step steps[AGENTS];
-static struct word words[WORDS];
-static uint8_t out[ROOM], journal[ROOM];
-static size_t written, journal_len;
-/* What an error has besides its code. */
-static char said[4096], numbers[64];
-
-#define OUT out, sizeof out, &written
-
-static uint32_t number(size_t word) { return (uint32_t)strtoul(words[word].at, NULL, 10); }
-static struct asm_agent *agent(size_t word) { return agents[number(word)]; }
-static struct asm_step *step(size_t word) { return &steps[number(word)]; }
-
-static struct word *text(size_t word) { return unquoted(&words[word]); }
-
-static void explain(int32_t form, const uint8_t *refused, size_t len) {
-    size_t size = 0;
-    if (asm_explain(form, refused, len, (uint8_t *)said, sizeof said - 1, &size) != ASM_DONE)
-        fail("asm_explain");
-    said[size] = 0;
-}
-
-/* The text of a fire of these words, of which the second may be null. */
-static struct word fire_of(struct word move, struct word reads) {
-    static char call[ROOM];
-    int len = snprintf(call, sizeof call, "{\"fire\":%.*s,\"reads\":%.*s}", (int)move.len, move.at, (int)reads.len, reads.at);
-    return (struct word){call, (size_t)len};
-}
-
-static void explain_move(struct word move) {
-    struct word call = fire_of(move, (struct word){"[]", 2});
-    explain(ASM_FORM_MOVE, BYTES(call));
-}
-
-static int32_t write_number(uint64_t it) {
-    written = (size_t)sprintf((char *)out, "%" PRIu64, it);
-    return ASM_DONE;
-}
-
-static int32_t write_null(int32_t code) {
-    if (code == ASM_DONE)
-        written = (size_t)sprintf((char *)out, "null");
-    return code;
-}
-
-/* Writes the answer to the agent's last call, if there is one. */
-static int32_t answered(int32_t code) {
-    if (code == ASM_DONE || code == ASM_STALE || code == ASM_CLASH) {
-        if (asm_answer(agent(0), OUT) != ASM_DONE)
-            fail("asm_answer");
-        return ASM_DONE;
-    }
-    return code;
-}
-
-/* What a refusal of a call writes is its answer. */
-static int32_t or_refusal(int32_t code) {
-    if (code == ASM_DONE)
-        return write_null(code);
-    return code == ASM_STALE || code == ASM_CLASH || code == ASM_LARGE ? ASM_DONE : code;
-}
-
-static int32_t of_locations(int32_t code) {
-    if (code == ASM_SHAPE || code == ASM_NOT_JSON)
-        explain(ASM_FORM_LOCATIONS, BYTES(words[1]));
-    return code;
-}
-
-/* Leaves the values of a reading. */
-static int32_t values(int32_t code) {
-    char *from = code == ASM_DONE ? strstr((char *)out, "\"values\":") + 9 : NULL;
-    if (from) {
-        written -= (size_t)(from - (char *)out) + 1;
-        memmove(out, from, written);
-    }
-    return of_locations(code);
-}
-
-static int32_t of_move(int32_t code) {
-    if (code == ASM_SHAPE || code == ASM_NOT_JSON)
-        explain_move(words[1]);
-    return or_refusal(code);
-}
+/* Makes the calls of the tables in bindings/conformance, and compares each answer, byte for byte: twice, the second time with commits
+ * that record. A call that writes is made without room and with a byte too few as well, and a refused one has to leave the slots of
+ * its agent, of that one's step and of its move unchanged. usage: conformance FOLDER */
+#include "conformance_steps.h"
 
 /* Of a journal: an error with the number of a line says what is wrong with that. */
 static int32_t of_line(int32_t code, const struct word *it, uint64_t line) {
@@ -108,18 +22,13 @@ static void begin_case(void) {
         asm_free_agent(agents[i]);
         free(agents[i]);
         agents[i] = NULL;
+        read_by[i] = 0;
         asm_free_step(&steps[i]);
+        asm_free_move(&moves[i]);
     }
     asm_free_storage(storage);
     free(storage);
     storage = NULL;
-}
-
-static void *slot(size_t size) {
-    void *made = calloc(1, size);
-    if (!made)
-        fail("no memory");
-    return made;
 }
 
 /* Has the storage, which was opened with this code, be that of the case. */
@@ -142,19 +51,37 @@ static int32_t agent_by(int32_t (*call)(struct asm_storage *, uint32_t, struct a
         free(made);
         return code;
     }
+    if (agents[number(0)])
+        asm_free_agent(agents[number(0)]);
     free(agents[number(0)]);
     agents[number(0)] = made;
     return write_null(code);
 }
 
-static int32_t checked(const struct word *it) {
+static int32_t abandoned(void) {
+    asm_free_agent(agent(0));
+    return write_null(ASM_DONE);
+}
+
+/* How many reads of the journal were recorded by commits: those that no agent made by itself. */
+static uint64_t recorded_reads(void) {
+    static const char event[] = ",\"call\":{\"read\":";
+    uint64_t all = 0;
+    for (size_t i = 0; i + strlen(event) < journal_len; i++)
+        all += !memcmp(journal + i, event, strlen(event));
+    for (size_t i = 0; i < AGENTS; i++)
+        all -= agents[i] && !agents[i]->slot.full ? read_by[i] : 0;
+    return all;
+}
+
+static int32_t checked(const struct word *it, uint64_t recorded) {
     uint64_t calls = 0;
-    uint32_t moves = 0;
-    int32_t code = asm_check(BYTES(*it), &calls, &moves);
+    uint32_t fired = 0;
+    int32_t code = asm_check(BYTES(*it), &calls, &fired);
     if (code == ASM_ILLEGAL)
         sprintf(numbers, "[%" PRIu64, calls);
     else if (code == ASM_DONE)
-        written = (size_t)sprintf((char *)out, "[%" PRIu64 ",%" PRIu32 "]", calls, moves);
+        reply("[%" PRIu64 ",%" PRIu32 "]", calls - recorded, fired);
     return of_line(code, it, calls);
 }
 
@@ -167,7 +94,7 @@ static int32_t audited(const struct word *it) {
         code = asm_audited(&audit, &told);
     code = code == ASM_EMPTY ? ASM_CUT : code; /* it has no byte */
     if (code == ASM_DONE)
-        written = (size_t)sprintf((char *)out, "[%" PRIu64 ",%" PRIu64 ",%" PRIu64 "]", told.calls, told.moves, told.parts);
+        reply("[%" PRIu64 ",%" PRIu64 ",%" PRIu64 "]", told.calls, told.moves, told.parts);
     else if (code == ASM_ILLEGAL || code == ASM_SHAPE || code == ASM_NOT_JSON)
         sprintf(numbers, "[%" PRIu64 ",%" PRIu64, told.calls, told.parts);
     else
@@ -176,17 +103,23 @@ static int32_t audited(const struct word *it) {
     return code;
 }
 
+static int32_t read_locations(void) {
+    int32_t code = asm_read(agent(0), BYTES(words[1]));
+    read_by[number(0)] += code == ASM_DONE;
+    return of_locations(answered(code));
+}
+
 static int32_t fire(void) {
-    asm_numbers fired;
+    asm_numbers its = {9, 9, 9};
     struct word call = fire_of(words[1], words[2]);
-    int32_t code = asm_try_fire_over(agent(0), BYTES(call), BYTES(words[3]), &fired);
+    int32_t code = asm_try_fire_over(agent(0), BYTES(call), BYTES(words[3]), &its);
     if (code == ASM_SHAPE)
         explain(ASM_FORM_MOVE, BYTES(call));
-    return answered(code);
+    return numbered(code, its);
 }
 
 static int32_t stands(void) {
-    int32_t code = asm_stands(agent(0), BYTES(words[1]), OUT);
+    int32_t code = WRITES(asm_stands(agent(0), BYTES(words[1]), OUT));
     if (code == ASM_SHAPE) {
         struct word call = fire_of((struct word){"[]", 2}, words[1]);
         explain(ASM_FORM_MOVE, BYTES(call));
@@ -194,7 +127,7 @@ static int32_t stands(void) {
     return or_refusal(code);
 }
 
-static int32_t of_two(int32_t code, int32_t is_state) {
+static int32_t of_two(int32_t code, bool is_state) {
     if (code == ASM_SHAPE || code == ASM_NOT_JSON) {
         if (is_state)
             explain(ASM_FORM_STATE, BYTES(words[0]));
@@ -219,14 +152,8 @@ static int32_t explained(void) {
     while (strncmp(forms[number], form->at, form->len))
         number++;
     explain(number, BYTES(*it));
-    out[0] = '"';
-    written = 1;
-    for (const char *at = said; *at; at++) {
-        if (*at == '"' || *at == '\\')
-            out[written++] = '\\';
-        out[written++] = (uint8_t)*at;
-    }
-    out[written++] = '"';
+    give_room(2 * sizeof said);
+    written = quote((char *)out, said, strlen(said));
     return ASM_DONE;
 }
 
@@ -235,28 +162,39 @@ static int32_t closed(void) {
     int32_t code = asm_close(storage, &missing);
     if (code == ASM_MISSING)
         sprintf(numbers, "[%" PRIu32, missing);
-    if (code == ASM_DONE && asm_journal(storage, journal, sizeof journal, &journal_len) != ASM_DONE)
+    if (code != ASM_DONE)
+        return code;
+    if (WRITES(asm_journal(storage, OUT)) != ASM_DONE || written >= sizeof journal)
         fail("asm_journal");
+    memcpy(journal, out, journal_len = written);
     return write_null(code);
 }
 
-/* Makes the call, whose answer is then in `out`; returns the code of an error. */
-static int32_t answer(const char *call) {
+/* The events of the journal, behind its header. */
+static int32_t lines(void) {
+    const uint8_t *from = (const uint8_t *)memchr(journal, '\n', journal_len) + 1;
+    give_room(journal_len + 2);
+    out[0] = '[';
+    written = 1;
+    for (; from < journal + journal_len; from++)
+        out[written++] = *from == '\n' ? ',' : *from;
+    written -= written > 1;
+    out[written++] = ']';
+    return ASM_DONE;
+}
+
+/* A call of an agent, or one of its step. */
+static int32_t of_agent(const char *call) {
     uint32_t found = 0;
-    uint64_t line = 0;
-    asm_numbers fired;
-#define IS(name) !strcmp(call, name)
-    if (IS("open") || IS("next")) {
-        struct asm_storage *made = slot(sizeof *made);
-        int32_t code = IS("open") ? asm_open(BYTES(words[0]), number(1), made) : asm_next(storage, number(0), made);
-        return opened(code, made);
-    }
     if (IS("agent")) return agent_by(asm_agent);
     if (IS("take")) return agent_by(asm_take);
     if (IS("give")) return write_null(asm_give(storage, agent(0)));
+    if (IS("abandon")) return abandoned();
     if (IS("learn")) return write_null(asm_learn(agent(0), agent(1)));
-    if (IS("read")) return of_locations(answered(asm_read(agent(0), BYTES(words[1]))));
-    if (IS("peek")) return of_locations(asm_peek(agent(0), BYTES(words[1]), OUT));
+    if (IS("read")) return read_locations();
+    if (IS("answer")) return WRITES(asm_answer(agent(0), OUT));
+    if (IS("peek")) return of_locations(WRITES(asm_peek(agent(0), BYTES(words[1]), OUT)));
+    if (IS("peek_at")) return at_prepared(false);
     if (IS("fire")) return fire();
     if (IS("follow")) {
         int32_t code = asm_follow(agent(0), &found);
@@ -264,115 +202,195 @@ static int32_t answer(const char *call) {
     }
     if (IS("stands")) return stands();
     if (IS("state")) {
-        int32_t code = asm_state(agent(0), &found, OUT);
+        int32_t code = WRITES(asm_state(agent(0), &found, OUT));
         return at_number(code, found, 1);
     }
     if (IS("scan")) {
         struct word *name = text(1);
-        int32_t code = asm_scan(agent(0), BYTES(*name), &found, OUT);
+        int32_t code = WRITES(asm_scan(agent(0), BYTES(*name), &found, OUT));
         return at_number(code, found, 2);
     }
     if (IS("seen")) return write_number(asm_seen(agent(0)));
     if (IS("won")) return write_number(asm_won(agent(0)));
     if (IS("misses")) return write_number(asm_misses(agent(0)));
+    return of_step(call);
+}
+
+/* Makes the call, whose answer is then in `out`; returns the code of an error. */
+static int32_t answer(const char *call) {
+    uint32_t found = 0;
+    uint64_t line = 0;
+    if (IS("open") || IS("next") || IS("go_on")) {
+        struct asm_storage *made = slot(sizeof *made);
+        int32_t code = IS("open")   ? asm_open(BYTES(words[0]), number(1), made)
+                       : IS("next") ? asm_next(storage, number(0), made)
+                                    : asm_go_on(agent(0), number(1), made);
+        return opened(code, made);
+    }
     if (IS("moves")) {
         int32_t code = asm_moves(storage, &found);
         return code == ASM_DONE ? write_number(found) : code;
     }
-    if (IS("begin")) {
-        int32_t code = asm_begin(agent(0), step(0), &found);
-        return code == ASM_DONE ? write_number(found) : code;
-    }
-    if (IS("get")) return values(asm_get(agent(0), step(0), BYTES(words[1]), OUT));
-    if (IS("see")) return values(asm_see(agent(0), step(0), BYTES(words[1]), OUT));
-    if (IS("get_all")) {
-        struct word *name = text(1);
-        return asm_step_scan(agent(0), step(0), BYTES(*name), OUT);
-    }
-    if (IS("push")) return of_move(asm_push(agent(0), step(0), BYTES(words[1]), OUT));
-    if (IS("extend")) return of_move(asm_extend(agent(0), step(0), BYTES(words[1]), OUT));
-    if (IS("pop")) return write_null(asm_pop(step(0)));
-    if (IS("depth")) return write_number(asm_depth(step(0)));
-    if (IS("offer")) return asm_offer(step(0), OUT);
-    if (IS("commit")) return answered(asm_commit(agent(0), step(0), &fired));
     if (IS("close")) return closed();
-    if (IS("journal")) return checked(&(struct word){(char *)journal, journal_len});
-    if (IS("check")) return checked(text(0));
+    if (IS("journal")) return checked(&(struct word){(char *)journal, journal_len}, recorded_reads());
+    if (IS("lines")) return lines();
+    if (IS("check")) return checked(text(0), 0);
     if (IS("replay")) {
         struct word *it = text(0);
-        int32_t code = asm_replay(BYTES(*it), OUT, &line);
+        int32_t code = WRITES(asm_replay(BYTES(*it), OUT, &line));
         return of_line(code, it, line);
     }
     if (IS("audit")) return audited(text(0));
-    if (IS("aggregate")) return of_two(asm_aggregate(BYTES(words[0]), BYTES(words[1]), OUT), true);
-    if (IS("compose")) return of_two(asm_compose(BYTES(words[0]), BYTES(words[1]), OUT), false);
+    if (IS("aggregate")) return of_two(WRITES(asm_aggregate(BYTES(words[0]), BYTES(words[1]), OUT)), true);
+    if (IS("compose")) return of_two(WRITES(asm_compose(BYTES(words[0]), BYTES(words[1]), OUT)), false);
     if (IS("explain")) return explained();
-    fail(call);
-    return 0;
+    return of_agent(call);
 }
 
 /* Returns whether the error is the wanted one, as far as that says. */
 static bool is_refused_as(int32_t code, const char *wanted) {
-    char begin[64], quoted[8192] = "\"said\":\"";
+    char begin[64], quoted[8192] = "\"said\":";
     snprintf(begin, sizeof begin, "{\"error\":\"%s\"", name_of(code));
-    size_t len = strlen(quoted);
-    for (const char *at = said; *at; at++) {
-        if (*at == '"' || *at == '\\')
-            quoted[len++] = '\\';
-        quoted[len++] = *at;
-    }
+    quote(quoted + strlen(quoted), said, strlen(said));
     const char *listed = strstr(wanted, "\"numbers\":");
     return !strncmp(wanted, begin, strlen(begin)) && (!strstr(wanted, "\"said\":") || strstr(wanted, quoted)) &&
            (!listed || (*numbers && !strncmp(listed + 10, numbers, strlen(numbers))));
+}
+
+/* The slots of the agent and the step of a call, and of its move. */
+typedef struct {
+    asm_slot agent, step, move;
+} slots;
+
+static slots slots_now(const char *call) {
+    bool is_number = words[0].len && words[0].len < 4 && words[0].at[0] >= '0' && words[0].at[0] <= '9';
+    bool is_second = IS("push_move") || IS("extend_move") || IS("pop_move");
+    slots none = {0};
+    if (!is_number || number(0) >= AGENTS)
+        return none;
+    asm_slot of_agent = agent(0) ? agent(0)->slot : none.agent;
+    return (slots){of_agent, step(0)->slot, move_at(is_second)->slot};
+}
+
+/* Returns whether the call may have changed the slot of its agent or its step. */
+static bool may_change(const char *call) {
+    static const char *const changes[] = {"open", "next", "go_on", "agent", "take", "give", "abandon", "begin"};
+    if (IS("commit"))
+        return last == ASM_DONE && !strncmp((const char *)out, "{\"fired\":", strlen("{\"fired\":"));
+    for (size_t i = 0; i < sizeof changes / sizeof *changes; i++)
+        if (IS(changes[i]))
+            return last == ASM_DONE;
+    return false;
+}
+
+static bool may_change_move(const char *call) {
+    return last == ASM_DONE && (IS("pop_move") || IS("gather") || IS("unite") || IS("drop"));
+}
+
+static bool are_same(asm_slot now, asm_slot was) { return now.full == was.full && now.at == was.at; }
+
+/* Returns whether the slots of the call are as they were, or as it may have left them. */
+static bool are_kept(const char *call, slots was) {
+    slots now = slots_now(call);
+    return may_change(call) || (are_same(now.agent, was.agent) && are_same(now.step, was.step) &&
+                                (may_change_move(call) || are_same(now.move, was.move)));
 }
 
 /* Makes the call of the line. Returns whether it was answered as the line has it. */
 static bool is_answered(char *line, size_t len) {
     struct word all[WORDS + 2];
     size_t n = split(line, len, all);
-    char call[32], wanted[1 << 16];
+    char call[32];
+    static char wanted[LINE];
     snprintf(call, sizeof call, "%.*s", (int)all[0].len - 2, all[0].at + 1);
     *said = *numbers = 0;
-    written = 0;
-    if (!strcmp(call, "case"))
+    if (IS("case"))
         return begin_case(), true;
-    bool is_end = !strcmp(call, "end");
+    bool is_end = IS("end");
+    memset(words, 0, sizeof words);
     memcpy(words, all + 1, (n - 1 - !is_end) * sizeof *words);
     if (is_end)
         return asm_free_step(step(0)), true;
     if (all[n - 1].len >= sizeof wanted)
         fail("a long answer");
     sprintf(wanted, "%.*s", (int)all[n - 1].len, all[n - 1].at);
+    slots was = slots_now(call);
     int32_t code = answer(call);
     bool is_error = !strncmp(wanted, "{\"error\":", 9);
     bool is_right = is_error ? is_refused_as(code, wanted) : code == ASM_DONE && written == strlen(wanted) && !memcmp(out, wanted, written);
+    last = code;
     if (!is_right)
         fprintf(stderr, "%s: code %s, %.*s, said %s, numbers %s; wanted %s\n", call, name_of(code), (int)written, (char *)out, said, numbers,
             wanted);
+    if (!are_kept(call, was)) {
+        fprintf(stderr, "%s: a slot has changed\n", call);
+        return false;
+    }
     return is_right;
 }
 
+/* Copies the line, with the items that an {"each":COUNT,"of":ITEM} stands for in its place, each with its number for "#". */
+static void expand(const char *line, char *into) {
+    static const char each[] = "{\"each\":", of[] = ",\"of\":", place[] = "\"#\"";
+    for (const char *next; (next = strstr(line, each)); line++) {
+        unsigned long count = strtoul(next + strlen(each), NULL, 10);
+        const char *item = strstr(next, of) + strlen(of), *end = strchr(item, '}');
+        memcpy(into, line, (size_t)(next - line));
+        into += next - line;
+        for (unsigned long i = 0; i < count; i++) {
+            into += sprintf(into, "%s", i ? "," : "");
+            for (const char *at = item; at < end; at++) {
+                bool is_number = !strncmp(at, place, strlen(place));
+                into += is_number ? sprintf(into, "%lu", i) : sprintf(into, "%c", *at);
+                at += is_number ? strlen(place) - 1 : 0;
+            }
+        }
+        line = end;
+    }
+    strcpy(into, line);
+}
+
+/* Makes the calls of a table; returns how many lines it has. */
+static size_t replay(const char *path) {
+    static char line[LINE], copy[LINE];
+    size_t count = 0;
+    unsigned long times = 1;
+    FILE *file = fopen(path, "r");
+    if (!file)
+        fail(path);
+    while (fgets(line, sizeof line, file)) {
+        line[strcspn(line, "\n")] = 0;
+        count++;
+        /* The journal of agents that record has their reads too. */
+        if (sscanf(line, "[\"repeat\",%lu]", &times) == 1 || (is_recording && !strncmp(line, "[\"lines\"", strlen("[\"lines\""))))
+            continue;
+        for (; times > 0; times--) {
+            expand(line, copy);
+            if (!is_answered(copy, strlen(copy))) {
+                fprintf(stderr, "%s:%zu\n", path, count);
+                exit(1);
+            }
+        }
+        times = 1;
+    }
+    fclose(file);
+    return count;
+}
+
 int main(int argc, char **argv) {
-    static const char *const files[] = {"moves", "calls", "steps", "journals"};
-    static char line[1 << 20], path[4096];
+    static const char *const files[] = {"moves", "calls", "polls", "steps", "gathered", "commits", "journals"};
+    static char path[4096];
     size_t calls = 0;
     for (size_t i = 0; i < sizeof files / sizeof *files; i++) {
         snprintf(path, sizeof path, "%s/%s.jsonl", argc > 1 ? argv[1] : ".", files[i]);
-        FILE *file = fopen(path, "r");
-        size_t number = 0;
-        if (!file)
-            fail(path);
-        while (fgets(line, sizeof line, file)) {
-            number++;
-            if (!is_answered(line, strcspn(line, "\n"))) {
-                fprintf(stderr, "%s:%zu\n", path, number);
-                return 1;
-            }
+        for (int times = 0; times < 2; times++) {
+            is_recording = times == 1;
+            begin_case();
+            calls += replay(path);
         }
-        fclose(file);
-        calls += number;
     }
     begin_case();
+    free(out);
     if (calls < 500)
         fail("few calls");
     printf("%zu calls answered as in the table\n", calls);

@@ -4,11 +4,12 @@
 
 #include "folugben.h"
 
+#include <inttypes.h>
 #include <stdio.h>
 #include <stdlib.h>
 #include <string.h>
 
-enum { AGENTS = 256, WORDS = 8, ROOM = 1 << 22 };
+enum { AGENTS = 257, WORDS = 8, LINE = 1 << 20, ROOM = 1 << 22 };
 
 /* A word of a line as it is there, also of a text without a zero byte at its end. */
 struct word {
@@ -25,9 +26,9 @@ static inline void fail(const char *what) {
 
 static inline const char *name_of(int32_t code) {
 #define NAME(it) [ASM_##it] = #it
-    static const char *const names[] = {NAME(FULL), NAME(EMPTY), NAME(CAPACITY), NAME(MANY), NAME(NUMBER), NAME(MISSING), NAME(ILLEGAL),
-        NAME(NOT_JSON), NAME(SHAPE), NAME(VERSION), NAME(CUT), NAME(MOVED), NAME(DEEP), NAME(APART), NAME(AGENTS), NAME(AHEAD),
-        NAME(NO_JOURNAL), NAME(NO_PUSH), NAME(NO_AGENT), NAME(LONG_MOVE)};
+    static const char *const names[] = {NAME(FULL), NAME(EMPTY), NAME(CAPACITY), NAME(MANY), NAME(NO_ANSWER), NAME(NUMBER), NAME(MISSING),
+        NAME(ILLEGAL), NAME(NOT_JSON), NAME(SHAPE), NAME(VERSION), NAME(CUT), NAME(MOVED), NAME(DEEP), NAME(APART), NAME(AGENTS),
+        NAME(AHEAD), NAME(NO_JOURNAL), NAME(NO_PUSH), NAME(NO_AGENT), NAME(NOT_FULL), NAME(LONG_MOVE)};
     bool is_there = code >= 0 && (size_t)code < sizeof names / sizeof *names && names[code];
     return is_there ? names[code] : "another code";
 }
@@ -52,12 +53,29 @@ static inline struct word *unquoted(struct word *it) {
     return it;
 }
 
-/* Splits the line ["call",WORD, ..,ANSWER] at its commas outside of brackets and texts. Returns how many words there are. */
-static inline size_t split(char *line, size_t len, struct word *into) {
-    size_t n = 0, depth = 0, from = 1;
+/* Writes the text in JSON; returns its length there. */
+static inline size_t quote(char *into, const char *text, size_t len) {
+    char *at = into;
+    *at++ = '"';
+    for (size_t i = 0; i < len; i++) {
+        if (text[i] == '\n' || text[i] == '"' || text[i] == '\\')
+            *at++ = '\\';
+        if ((uint8_t)text[i] < ' ' && text[i] != '\n')
+            at += sprintf(at, "\\u%04x", (unsigned)text[i]);
+        else
+            *at++ = text[i] == '\n' ? 'n' : text[i];
+    }
+    *at++ = '"';
+    *at = 0;
+    return (size_t)(at - into);
+}
+
+/* Takes the next item of an array, which begins behind its bracket or a comma. Returns whether there is one. */
+static inline bool next_item(struct word *rest, struct word *item) {
+    size_t depth = 0;
     bool is_text = false;
-    for (size_t i = 1; i < len; i++) {
-        char c = line[i];
+    for (size_t i = 0; i < rest->len; i++) {
+        char c = rest->at[i];
         if (is_text && c == '\\')
             i++;
         else if (c == '"')
@@ -67,12 +85,25 @@ static inline size_t split(char *line, size_t len, struct word *into) {
         else if (!is_text && depth && (c == ']' || c == '}'))
             depth--;
         else if (!is_text && !depth && (c == ',' || c == ']')) {
-            if (n == WORDS + 2)
-                fail("too many words");
-            into[n++] = (struct word){line + from, i - from};
-            from = i + 1;
+            *item = (struct word){rest->at, i};
+            *rest = (struct word){rest->at + i + 1, rest->len - i - 1};
+            return i > 0;
         }
     }
+    return false;
+}
+
+/* The items of an array, behind its bracket. */
+static inline struct word items_of(struct word array) { return (struct word){array.at + 1, array.len - 1}; }
+
+/* Splits the line ["call",WORD, ..,ANSWER]. Returns how many words there are. */
+static inline size_t split(char *line, size_t len, struct word *into) {
+    struct word rest = items_of((struct word){line, len});
+    size_t n = 0;
+    while (n < WORDS + 2 && next_item(&rest, &into[n]))
+        n++;
+    if (rest.len)
+        fail("too many words");
     return n;
 }
 

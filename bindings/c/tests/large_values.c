@@ -68,6 +68,19 @@ static void end_all(void) {
     asm_free_storage(&storage);
 }
 
+/* An element of a set or a bag is counted, and all of them: only those of a bag are walked over. */
+static void count_in(size_t i) {
+    uint32_t count;
+    uint64_t size;
+    DOES(SAME, asm_count_of(&agents[0], &step, &places[i], ASM_KIND_NUM, 7, NULL, 0, &count));
+    REQUIRE(count == 1);
+    if (i == 0)
+        DOES(SAME, asm_size(&agents[0], &step, &places[0], &size));
+    else
+        DOES(LINEAR, asm_size(&agents[0], &step, &places[1], &size));
+    REQUIRE(size >= 10);
+}
+
 /* Each value is read in each way. */
 static void read_all(const char *const *held) {
     const char *all = costs.held;
@@ -87,6 +100,8 @@ static void read_all(const char *const *held) {
         SHOWS(LINEAR, answer, asm_get(&agents[0], &step, TEXT(names[i]), SAID));
         SHOWS(LINEAR, answer, asm_see(&agents[0], &step, TEXT(names[i]), SAID));
         FILLS(LINEAR, in_value, asm_get_at(&agents[0], &step, &places[i], &value, SAID));
+        if (!is_text)
+            count_in(i);
         FILLS(LINEAR, values[i].length + strlen("[[['s'],]]"),
               asm_scan(&agents[0], bytes(names[i]) + 3, 1, &number, SAID));
         FILLS(LINEAR, values[i].length + strlen("[[['s'],]]"),

@@ -99,6 +99,41 @@ static void gets_at(unsigned at, unsigned of_step, unsigned of_place) {
         s->has_read[l->place] |= !is_put;
 }
 
+/* How often the number 1 is at the place, and how many elements: false for a value without any. */
+static bool has_members(world w, unsigned place, uint32_t *count, uint64_t *size) {
+    bool is_set = place == V_PLACE && values[w.v].kind == ASM_KIND_SET;
+    bool is_bag = place == V_PLACE && values[w.v].kind == ASM_KIND_BAG;
+    unsigned bits = place == S_PLACE && w.s >= 0 ? (unsigned)w.s : is_set ? 3 : 0;
+    *count = is_bag ? 2 : bits & 1;
+    *size = is_bag ? 2 : (bits & 1) + (bits >> 1);
+    return place == S_PLACE || is_set || is_bag ||
+           (place == V_PLACE ? w.v == 0 : (place == X_PLACE ? w.x : w.y) < 0);
+}
+
+/* Counts one element, or all. */
+static void counts_at(unsigned at, unsigned of_step, unsigned of_place) {
+    const account *a = &accounts[at], *l = &accounts[of_place];
+    account *s = &accounts[of_step];
+    uint32_t count = 9, wanted_count = 0;
+    uint64_t size = 9, wanted_size = 0;
+    int32_t wanted = l->kind != LOCATION ? ASM_EMPTY : step_code(a, s, ASM_DONE);
+    if (wanted == ASM_DONE) {
+        layer top = top_of(s);
+        bool is_put = l->place == Y_PLACE ? top.puts : l->place == V_PLACE && top.puts_v;
+        if (!has_members(top.seen, l->place, &wanted_count, &wanted_size))
+            wanted = ASM_SHAPE;
+        s->has_read[l->place] |= !is_put;
+    }
+    if (below(2)) {
+        REQUIRE(asm_count_of(ANY(at), ANY(of_step), ANY(of_place), ASM_KIND_NUM, 1, NULL, 0,
+                             &count) == wanted);
+        REQUIRE(count == wanted_count);
+    } else {
+        REQUIRE(asm_size(ANY(at), ANY(of_step), ANY(of_place), &size) == wanted);
+        REQUIRE(size == wanted_size);
+    }
+}
+
 /* Instructions: those that are done use one place alone, and a put of v one of its values. */
 static const struct {
     int32_t verb, kind;
@@ -290,7 +325,11 @@ void calls_any_plain(unsigned at, unsigned other) {
     unsigned of_step = fitting(at, other);
     at = below(4) ? some(AGENT, at) : at;
     of_step = below(4) ? fitting(at, of_step) : of_step;
-    switch (below(11)) {
+    switch (below(12)) {
+    case 11:
+        if (have_meaning(at, of_step))
+            counts_at(at, of_step, some(LOCATION, other));
+        break;
     case 10:
         unites(some(MOVE, other), below(2) ? other : some(MOVE, at));
         break;

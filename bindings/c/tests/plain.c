@@ -1,116 +1,6 @@
-/* Calls without text: values of each kind, instructions of each verb, and what each refusal
- * leaves unchanged. */
+/* Calls without text: operands that make no instruction, and slots of other kinds. Values, gathered moves, popped and united ones
+ * are in bindings/conformance/gathered.jsonl. */
 #include "plain.h"
-
-static void each_kind(void) {
-    begin_all();
-    for (int gets_value = 0; gets_value < 2; gets_value++) {
-        peeks_value(gets_value, B, ASM_KIND_BAG, 0, "{'bag':[['e',2]]}");
-        peeks_value(gets_value, F, ASM_KIND_BOOL, 0, "");
-        peeks_value(gets_value, L, ASM_KIND_LIST, 0, "{'list':[1,'two']}");
-        peeks_value(gets_value, N, ASM_KIND_NUM, INT64_MIN, "");
-        peeks_value(gets_value, S, ASM_KIND_SET, 0, "{'set':[1]}");
-        peeks_value(gets_value, T, ASM_KIND_TEXT, 0, "h\xc3\xbc");
-        peeks_value(gets_value, W, ASM_KIND_TEXT, 0, "");
-        peeks_value(gets_value, X, ASM_KIND_NUM, 7, "");
-        peeks_value(gets_value, Y, ASM_KIND_BOOL, 1, "");
-        peeks_value(gets_value, U, ASM_KIND_UNDEF, 0, "");
-    }
-    end_all();
-}
-
-static void each_verb(void) {
-    begin_all();
-    does(T, ASM_PUT, ASM_KIND_TEXT, 0, "/\xc3\xbc", 0);
-    does(F, ASM_PUT, ASM_KIND_BOOL, 1, "", 0);
-    does(Y, ASM_PUT, ASM_KIND_BOOL, 0, "", 0);
-    does(W, ASM_PUT, ASM_KIND_UNDEF, 0, "", 0);
-    does(U, ASM_PUT, ASM_KIND_NUM, INT64_MAX, "", 0);
-    does(L, ASM_PUT, ASM_KIND_TEXT, 0, "", 0);
-    does(S, ASM_ADD, ASM_KIND_TEXT, 0, "two", 0);
-    does(S, ASM_REMOVE, ASM_KIND_NUM, 1, "", 0);
-    does(B, ASM_BAGADD, ASM_KIND_BOOL, 0, "", 4294967295);
-    does(B, ASM_BAGREMOVE, ASM_KIND_TEXT, 0, "e", 1);
-    does(X, ASM_INC, ASM_KIND_NUM, INT64_MIN, "", 0);
-    REQUIRE(grows(true) == ASM_DONE && asm_depth(&step) == 1);
-    gets(B, ASM_KIND_BAG, 0, "{'bag':[[false,4294967295],['e',1]]}");
-    gets(F, ASM_KIND_BOOL, 1, "");
-    gets(L, ASM_KIND_TEXT, 0, "");
-    gets(S, ASM_KIND_SET, 0, "{'set':['two']}");
-    gets(W, ASM_KIND_UNDEF, 0, "");
-    gets(X, ASM_KIND_NUM, INT64_MIN + 7, "");
-    gets(Y, ASM_KIND_BOOL, 0, "");
-    gets(U, ASM_KIND_NUM, INT64_MAX, "");
-    WRITES(ASM_DONE, "{'number':0,'values':['/\xc3\xbc']}",
-           asm_get(&agents[0], &step, TEXT("[['t']]"), OUT));
-    end_all();
-}
-
-/* A move stays in its slot: it is pushed again, extends, and grows without changing what it was
- * pushed to. One that is dropped changes nothing either. */
-static void a_move_stays(void) {
-    asm_numbers numbers;
-    begin_all();
-    does(X, ASM_INC, ASM_KIND_NUM, 1, "", 0);
-    REQUIRE(grows(true) == ASM_DONE && grows(true) == ASM_DONE && grows(false) == ASM_DONE);
-    REQUIRE(asm_depth(&step) == 2);
-    gets(X, ASM_KIND_NUM, 10, "");
-    does(X, ASM_INC, ASM_KIND_NUM, 10, "", 0);
-    gets(X, ASM_KIND_NUM, 10, "");
-    REQUIRE(grows(true) == ASM_DONE);
-    gets(X, ASM_KIND_NUM, 21, "");
-    asm_free_move(&move);
-    REQUIRE(!move.slot.full);
-    gets(X, ASM_KIND_NUM, 21, "");
-    REQUIRE(asm_pop(&step) == ASM_DONE && asm_pop(&step) == ASM_DONE);
-    gets(X, ASM_KIND_NUM, 8, "");
-    REQUIRE(asm_commit(&agents[0], &step, &numbers) == ASM_DONE && numbers.fired == 1);
-    ANSWERS(ASM_EMPTY, asm_get_at(&agents[0], &step, &at[X], &(asm_value){9, 9}, OUT));
-    WRITES(ASM_DONE, "{'fired':1}", asm_answer(&agents[0], OUT));
-    end_all();
-}
-
-/* The commit names the tracked reads, and an agent whose state has moved on begins again. */
-static void read_locations_are_named(void) {
-    asm_numbers numbers;
-    uint32_t number;
-    asm_value value = {9, 9};
-    begin_all();
-    gets(X, ASM_KIND_NUM, 7, "");
-    gets(X, ASM_KIND_NUM, 7, "");
-    fire(&agents[1], "[['put',['y'],null]]");
-    REQUIRE(asm_commit(&agents[0], &step, &numbers) == ASM_DONE && numbers.fired == 2);
-    REQUIRE(asm_begin(&agents[0], &step, &number) == ASM_DONE && number == 2);
-    gets(Y, ASM_KIND_UNDEF, 0, "");
-    gets(X, ASM_KIND_NUM, 7, "");
-    fire(&agents[1], "[['put',['y'],1]]");
-    REQUIRE(asm_commit(&agents[0], &step, &numbers) == ASM_STALE);
-    WRITES(ASM_DONE, "{'stale':['y']}", asm_answer(&agents[0], OUT));
-    REQUIRE(asm_follow(&agents[0], &number) == ASM_DONE && number == 3);
-    ANSWERS(ASM_MOVED, asm_get_at(&agents[0], &step, &at[X], &value, OUT));
-    REQUIRE(is_value(value, 0, 0));
-    does(X, ASM_INC, ASM_KIND_NUM, 1, "", 0);
-    REQUIRE(grows(true) == ASM_MOVED && grows(false) == ASM_MOVED);
-    value = (asm_value){9, 9};
-    ANSWERS(ASM_DONE, asm_peek_at(&agents[0], &at[Y], &number, &value, OUT));
-    REQUIRE(number == 3 && is_value(value, ASM_KIND_NUM, 1));
-    end_all();
-}
-
-/* A text reports moves that clash, and they leave the step unchanged. */
-static void clashes(void) {
-    begin_all();
-    does(Y, ASM_INC, ASM_KIND_NUM, 1, "", 0);
-    WRITES(ASM_CLASH, "{'clash':[['y'],'Kind']}", asm_push_move(&agents[0], &step, &move, OUT));
-    WRITES(ASM_CLASH, "{'clash':[['y'],'Kind']}", asm_extend_move(&agents[0], &step, &move, OUT));
-    REQUIRE(asm_depth(&step) == 0);
-    asm_free_move(&move);
-    does(Y, ASM_PUT, ASM_KIND_NUM, 1, "", 0);
-    for (int i = 0; i < 64; i++)
-        REQUIRE(grows(true) == ASM_DONE);
-    REQUIRE(grows(true) == ASM_DEEP && grows(false) == ASM_DONE && asm_depth(&step) == 64);
-    end_all();
-}
 
 /* Verbs, operands and amounts that don't exist, with a move that is empty and one that isn't. */
 static void out_of_range(void) {
@@ -175,35 +65,6 @@ static void order_of_codes(void) {
     end_all();
 }
 
-/* A move of 4,096 instructions has no room for another, and 256 tracked reads have none for a
- * further one. */
-static void full(void) {
-    char place[32];
-    struct asm_location other = {0};
-    asm_value value;
-    begin_all();
-    for (int i = 0; i < 4096; i++)
-        does(X, ASM_INC, ASM_KIND_NUM, 1, "", 0);
-    REQUIRE(instruct(X, ASM_INC, ASM_KIND_NUM, 1, "", 0) == ASM_LONG_MOVE);
-    REQUIRE(instruct(X, ASM_INC, ASM_KIND_NUM, 1, "", 1) == ASM_OPERAND);
-    REQUIRE(grows(true) == ASM_DONE);
-    gets(X, ASM_KIND_NUM, 4103, "");
-    for (int i = 255; i > 0; i--) {
-        snprintf(place, sizeof place, "['z',%d]", i);
-        REQUIRE(asm_location(TEXT(place), &other) == ASM_DONE);
-        ANSWERS(ASM_DONE, asm_get_at(&agents[0], &step, &other, &value, OUT));
-        ANSWERS(ASM_DONE, asm_get_at(&agents[0], &step, &other, &value, OUT));
-        REQUIRE(is_value(value, ASM_KIND_UNDEF, 0));
-        asm_free_location(&other);
-    }
-    value = (asm_value){9, 9};
-    ANSWERS(ASM_MANY, asm_get_at(&agents[0], &step, &at[T], &value, OUT));
-    REQUIRE(is_value(value, 0, 0));
-    ANSWERS(ASM_MANY, asm_get(&agents[0], &step, TEXT("[['y']]"), OUT));
-    gets(X, ASM_KIND_NUM, 4103, "");
-    end_all();
-}
-
 /* Each call on three slots of which one holds nothing of its kind, or of which two are one. */
 static void on_nothing(void *agent, void *of_step, void *third) {
     asm_slot was[3] = {slot_of(agent), slot_of(of_step), slot_of(third)};
@@ -259,16 +120,125 @@ static void other_slots(void) {
     end_all();
 }
 
+/* Bytes that aren't JSON, or of no value of the kind, and values that a verb doesn't accept. */
+static void refuses_each(void) {
+    static const char *const no_lists[] = {
+        "7",
+        "null",
+        "'list'",
+        "[1,2]",
+        "{'set':[]}",
+        "{'bag':[]}",
+        "{}",
+        "{'list':1}",
+        "{'list':[1.0]}",
+        "{'list':[{'set':[]}]}",
+        "{'lists':[]}",
+        "{'list':[],'set':[]}",
+        "{'list':[9223372036854775808]}",
+        "{'list':[{'list':[{'list':[{'list':[{'list':[{'list':[{'list':[{'list':[{'list':[]}]}]}]}]"
+        "}]}]}]}]}",
+    };
+    static const char *const no_json[] = {"", "{'list':[", "{'list':[]} 1", "\xff",
+                                          "{'list':[1,]}"};
+    for (size_t i = 0; i < sizeof no_lists / sizeof *no_lists; i++) {
+        refuses_as(ASM_SHAPE, ASM_PUT, ASM_KIND_LIST, 0, no_lists[i], 0);
+        refuses_as(ASM_SHAPE, ASM_ADD, ASM_KIND_LIST, 0, no_lists[i], 0);
+        refuses_as(ASM_SHAPE, ASM_BAGREMOVE, ASM_KIND_LIST, 0, no_lists[i], 1);
+    }
+    for (size_t i = 0; i < sizeof no_json / sizeof *no_json; i++)
+        for (int32_t kind = ASM_KIND_LIST; kind <= ASM_KIND_BAG; kind++)
+            refuses_as(ASM_NOT_JSON, ASM_PUT, kind, 0, no_json[i], 0);
+    refuses_as(ASM_SHAPE, ASM_PUT, ASM_KIND_SET, 0, "{'list':[]}", 0);
+    refuses_as(ASM_SHAPE, ASM_PUT, ASM_KIND_SET, 0, "{'set':[1,1]}", 0);
+    refuses_as(ASM_SHAPE, ASM_PUT, ASM_KIND_SET, 0, "{'set':[{'set':[]}]}", 0);
+    refuses_as(ASM_SHAPE, ASM_PUT, ASM_KIND_BAG, 0, "{'set':[]}", 0);
+    refuses_as(ASM_SHAPE, ASM_PUT, ASM_KIND_BAG, 0, "{'bag':[['e',0]]}", 0);
+    refuses_as(ASM_SHAPE, ASM_PUT, ASM_KIND_BAG, 0, "{'bag':[['e',1],['e',1]]}", 0);
+    refuses_as(ASM_SHAPE, ASM_PUT, ASM_KIND_BAG, 0, "{'bag':[['e',4294967296]]}", 0);
+    for (int32_t kind = ASM_KIND_SET; kind <= ASM_KIND_BAG; kind++) {
+        const char *text = kind == ASM_KIND_SET ? "{'set':[]}" : "{'bag':[]}";
+        refuses(ASM_ADD, kind, 0, text, 0);
+        refuses(ASM_REMOVE, kind, 0, text, 0);
+        refuses(ASM_BAGADD, kind, 0, text, 1);
+        refuses(ASM_BAGREMOVE, kind, 0, text, 1);
+        refuses(ASM_INC, kind, 0, text, 0);
+        refuses(ASM_PUT, kind, 1, text, 0);
+        refuses(ASM_PUT, kind, 0, text, 1);
+    }
+    refuses(ASM_PUT, ASM_KIND_LIST, -1, "{'list':[]}", 0);
+    refuses(ASM_PUT, ASM_KIND_LIST, 0, "{'list':[]}", 1);
+    refuses(ASM_BAGADD, ASM_KIND_LIST, 0, "{'list':[]}", 0);
+    refuses(ASM_INC, ASM_KIND_LIST, 0, "{'list':[]}", 0);
+}
+
+/* This holds for an empty move and for one that isn't. */
+static void no_values(void) {
+    begin_all();
+    does(L, ASM_PUT, ASM_KIND_LIST, 0, " {'list' : [2,{'list':[]}]}\n", 0);
+    REQUIRE(grows(true) == ASM_DONE);
+    gets(L, ASM_KIND_LIST, 0, "{'list':[2,{'list':[]}]}");
+    asm_free_move(&move);
+    refuses_each();
+    REQUIRE(!move.slot.full);
+    does(X, ASM_INC, ASM_KIND_NUM, 1, "", 0);
+    refuses_each();
+    REQUIRE(grows(true) == ASM_DONE);
+    gets(X, ASM_KIND_NUM, 8, "");
+    end_all();
+}
+
+/* Neither slot changes, whatever the two hold. */
+static void not_united(struct asm_move *first, struct asm_move *second, int32_t code) {
+    asm_slot was[2] = {first->slot, second->slot};
+    REQUIRE(asm_unite(first, second) == code);
+    REQUIRE(is_same(*first, was[0]) && is_same(*second, was[1]));
+}
+
+static void united_slots(void) {
+    struct asm_move empty = {0}, other = {0};
+    begin_all();
+    /* A slot without a move holds one afterwards, and the other slot is unchanged. */
+    REQUIRE(asm_unite(&other, &empty) == ASM_DONE && other.slot.full && !empty.slot.full);
+    asm_slot was = other.slot;
+    REQUIRE(asm_unite(&empty, &other) == ASM_DONE && empty.slot.full && is_same(other, was));
+    asm_free_move(&other);
+    asm_free_move(&empty);
+    does(X, ASM_INC, ASM_KIND_NUM, 1, "", 0);
+    void *others[] = {&storage, &agents[0], &step, &at[X]};
+    for (size_t i = 0; i < sizeof others / sizeof *others; i++) {
+        not_united(others[i], &move, ASM_TAKEN);
+        not_united(others[i], &empty, ASM_TAKEN);
+        not_united(others[i], others[(i + 1) % 4], ASM_TAKEN);
+        not_united(others[i], others[i], ASM_TAKEN);
+        not_united(&move, others[i], ASM_EMPTY);
+        not_united(&empty, others[i], ASM_EMPTY);
+    }
+    not_united(&move, &move, ASM_EMPTY);
+    not_united(&empty, &empty, ASM_EMPTY);
+    REQUIRE(grows(true) == ASM_DONE);
+    gets(X, ASM_KIND_NUM, 8, "");
+    end_all();
+}
+
+/* Without room for its text a peek at a location returns the room alone. */
+static void peeks_without_room(void) {
+    asm_value value = {9, 9};
+    uint32_t number = 9;
+    size_t written = 9;
+    begin_all();
+    REQUIRE(asm_peek_at(&agents[0], &at[T], &number, &value, NULL, 0, &written) == ASM_SMALL);
+    REQUIRE(written == 3 && number == 0 && is_value(value, 0, 0));
+    end_all();
+}
+
 int main(void) {
-    each_kind();
-    each_verb();
-    a_move_stays();
-    read_locations_are_named();
-    clashes();
+    peeks_without_room();
     out_of_range();
     order_of_codes();
-    full();
     other_slots();
+    no_values();
+    united_slots();
     puts("passed");
     return 0;
 }

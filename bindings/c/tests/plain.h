@@ -44,35 +44,26 @@ static inline bool is_value(asm_value value, int32_t kind, int64_t number) {
     return value.kind == kind && value.number == number;
 }
 
-/* With this room, the call returns the value, or the room that its text needs. */
-static inline void peeks_value_in(size_t room, bool gets, size_t place, asm_value wanted,
-                                  const char *text) {
+/* With this room, the step's get returns the value, or the room that its text needs. */
+static inline void gets_in(size_t room, size_t place, asm_value wanted, const char *text) {
     asm_value value = {9, 9};
-    uint32_t number = 9;
     size_t length = strlen(text), written = 99;
     bool fits = room >= length;
     uint8_t *out = buffer_of(room);
-    int32_t code = gets ? asm_get_at(&agents[0], &step, &at[place], &value, OUT)
-                        : asm_peek_at(&agents[0], &at[place], &number, &value, OUT);
+    int32_t code = asm_get_at(&agents[0], &step, &at[place], &value, OUT);
     REQUIRE(code == (fits ? ASM_DONE : ASM_SMALL) && written == length);
     REQUIRE(fits ? !memcmp(out, json(text), length) : is_untouched(out, room));
     REQUIRE(fits ? is_value(value, wanted.kind, wanted.number) : is_value(value, 0, 0));
-    REQUIRE(number == (gets ? 9 : 0));
     free(out);
 }
 
-/* What is seen at the location through the step, or in the agent's own state at 0 moves. */
-static inline void peeks_value(bool gets, size_t place, int32_t kind, int64_t number,
-                               const char *text) {
+/* What is seen at the location through the step. */
+static inline void gets(size_t place, int32_t kind, int64_t number, const char *text) {
     asm_slot was[3] = {agents[0].slot, step.slot, at[place].slot};
     if (*text)
-        peeks_value_in(strlen(text) - 1, gets, place, (asm_value){kind, number}, text);
-    peeks_value_in(strlen(text), gets, place, (asm_value){kind, number}, text);
+        gets_in(strlen(text) - 1, place, (asm_value){kind, number}, text);
+    gets_in(strlen(text), place, (asm_value){kind, number}, text);
     REQUIRE(is_same(agents[0], was[0]) && is_same(step, was[1]) && is_same(at[place], was[2]));
-}
-
-static inline void gets(size_t place, int32_t kind, int64_t number, const char *text) {
-    peeks_value(true, place, kind, number, text);
 }
 
 /* Puts an instruction into the move. */

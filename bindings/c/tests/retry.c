@@ -170,6 +170,17 @@ static void get_at(struct asm_location *place, int32_t kind, int64_t number, con
     REQUIRE(value.kind == kind && value.number == number && has(out, written, text));
 }
 
+/* How often the step sees the element there, and how many elements. */
+static void count_at(struct asm_location *place, int32_t kind, const char *element,
+                     uint32_t count_wanted, uint64_t size_wanted) {
+    uint32_t count;
+    uint64_t size;
+    REQUIRE(ON_STEP(asm_count_of(&agents[0], &step, place, kind, 0, bytes(element),
+                                 strlen(element), &count)) == ASM_DONE);
+    REQUIRE(ON_STEP(asm_size(&agents[0], &step, place, &size)) == ASM_DONE);
+    REQUIRE(count == count_wanted && size == size_wanted);
+}
+
 /* Puts an instruction into the move, which is unchanged if there was no memory. */
 static void instruct(struct asm_location *place, int32_t verb, int32_t kind, int64_t number,
                      const char *text) {
@@ -239,6 +250,7 @@ static void run_plain(void) {
     begin();
     instruct(&at[0], ASM_INC, ASM_KIND_NUM, 2, "");
     instruct(&at[1], ASM_PUT, ASM_KIND_TEXT, 0, "text");
+    count_at(&at[1], ASM_KIND_BOOL, "", 0, 0);
     get_at(&at[1], ASM_KIND_UNDEF, 0, "");
     REQUIRE(ON_STEP(asm_push_move(&agents[0], &step, &move, out, sizeof out, &written)) ==
             ASM_DONE);
@@ -262,6 +274,8 @@ static void run_plain(void) {
             ASM_DONE);
     depth = 1;
     seen = "{'number':1,'values':[{'set':[1,{'list':[2]}]},{'set':[1,3,'two']}]}";
+    count_at(&at[0], ASM_KIND_LIST, "{\"list\":[2]}", 1, 2);
+    count_at(&at[1], ASM_KIND_TEXT, "why", 0, 2);
     asm_free_move(&move);
     pop_move("{'number':1,'values':[8,{'set':[1,3,'two']}]}");
     REQUIRE(AGAIN(asm_peek_at(&agents[0], &at[0], &number, &value, out, sizeof out, &written)) ==

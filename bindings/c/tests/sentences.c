@@ -37,6 +37,17 @@ static void sentences(void) {
         ANSWERS(ASM_NO_FORM, asm_explain(form, bytes("[]"), 2, OUT));
 }
 
+/* Of two texts the first that is refused is judged; bytes that aren't JSON are refused as such. */
+static void pairs_of_texts(void) {
+    const char *state = "[[['x'],1]]", *wrong = "[['put',['x']]]", *cut = "[['put'";
+    ANSWERS(ASM_NOT_JSON, asm_aggregate(NULL, 0, TEXT(wrong), OUT));
+    ANSWERS(ASM_SHAPE, asm_aggregate(TEXT("[[['x'],1],[['x'],2]]"), NULL, 0, OUT));
+    ANSWERS(ASM_NOT_JSON, asm_aggregate(TEXT(state), NULL, 0, OUT));
+    ANSWERS(ASM_NOT_JSON, asm_compose(NULL, 0, TEXT(wrong), OUT));
+    ANSWERS(ASM_SHAPE, asm_compose(TEXT(wrong), TEXT(cut), OUT));
+    ANSWERS(ASM_NOT_JSON, asm_compose(TEXT("[]"), TEXT(cut), OUT));
+}
+
 /* What codes mean. */
 static const struct meaning {
     int32_t code;
@@ -50,11 +61,11 @@ static const struct meaning {
     {ASM_EMPTY, "a slot holds nothing of this kind, or is passed twice"},
     {ASM_CAPACITY, "the capacity is not 1 to 1,048,576"},
     {ASM_SMALL, "the buffer is too small"},
-    {ASM_BUSY, "64 offers were lost"},
+    {ASM_BUSY, "64 attempts to append were lost to other agents"},
     {ASM_MANY, "more than 256 locations, or locations and scanned functions"},
     {ASM_NO_ANSWER, "no call was answered yet"},
     {ASM_TAKEN, "the slot that was to be filled holds something else"},
-    {ASM_NUMBER, "an agent with this number was made before"},
+    {ASM_NUMBER, "the storage has, or had, another agent with this number"},
     {ASM_MISSING, "a move has no receipt among the agents that were returned"},
     {ASM_OTHER, "the two slots are of two storages"},
     {ASM_ILLEGAL, "the journal is not legal"},
@@ -98,6 +109,7 @@ static void texts_of_codes(void) {
 
 int main(void) {
     sentences();
+    pairs_of_texts();
     texts_of_codes();
     puts("passed");
     return 0;

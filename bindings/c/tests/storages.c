@@ -1,5 +1,4 @@
-/* Storages: moves of each size, however they are judged, many moves and many agents, and how
- * many moves a storage holds after each call. */
+/* Storages: moves that are judged in several ways, many moves and many agents. */
 #include "tests.h"
 
 static struct asm_storage storage;
@@ -29,54 +28,6 @@ static void reads(struct asm_agent *agent, const char *locations, const char *an
 static int32_t fire_of(struct asm_agent *agent, const char *call) {
     asm_numbers numbers;
     return asm_try_fire(agent, TEXT(call), &numbers);
-}
-
-/* A move that puts 1, 2 and so on at w(0), w(1) and so on, and then 0 at some of them; the
- * location at which it clashes, or -1. */
-static const struct wide {
-    int count, again[2], clash;
-} wides[] = {
-    {16, {-1, -1}, -1},       {17, {-1, -1}, -1},   {15, {7, -1}, 7}, {16, {15, -1}, 15},
-    {14, {9, 4}, 4},          {15, {4, 9}, 4},      {17, {16, 0}, 0}, {4096, {-1, -1}, -1},
-    {4095, {4094, -1}, 4094}, {4094, {4000, 3}, 3},
-};
-
-static const char *call_of(const struct wide *w) {
-    static char text[32 * LONGEST];
-    char *at = text + sprintf(text, "{\"fire\":[");
-    for (int i = 0; i < w->count; i++)
-        at += sprintf(at, "%s[\"put\",[\"w\",%d],%d]", i ? "," : "", i, i + 1);
-    for (int i = 0; i < 2 && w->again[i] >= 0; i++)
-        at += sprintf(at, ",[\"put\",[\"w\",%d],0]", w->again[i]);
-    sprintf(at, "],\"reads\":[]}");
-    return text;
-}
-
-/* Another agent reads the result of the move at its first, a middle and its last location. */
-static void wide_move(const struct wide *w) {
-    char locations[64], answer[64];
-    const char *call = call_of(w);
-    asm_numbers numbers = {9, 9, 9};
-    int places[] = {0, w->count / 2, w->count - 1};
-    begin_with("[]", 8);
-    int32_t code = asm_try_fire(&agents[1], bytes(call), strlen(call), &numbers);
-    if (w->clash < 0) {
-        REQUIRE(code == ASM_DONE && numbers.fired == 1);
-    } else {
-        REQUIRE(code == ASM_CLASH && numbers.fired == 0);
-        snprintf(answer, sizeof answer, "{'clash':[['w',%d],'Two']}", w->clash);
-        WRITES(ASM_DONE, answer, asm_answer(&agents[1], OUT));
-    }
-    for (int i = 0; i < 3; i++) {
-        snprintf(locations, sizeof locations, "[['w',%d]]", places[i]);
-        if (w->clash < 0)
-            snprintf(answer, sizeof answer, "{'number':1,'values':[%d]}", places[i] + 1);
-        else
-            snprintf(answer, sizeof answer, "{'number':0,'values':[null]}");
-        reads(&agents[0], locations, answer);
-    }
-    holds(w->clash < 0);
-    end_all();
 }
 
 static uint32_t drawn(uint32_t seed) { return seed * 1664525 + 1013904223; }
@@ -149,62 +100,6 @@ static void many_moves(uint32_t count) {
     end_all();
 }
 
-/* A read returns the value that was written last, also undef, again and again. */
-static void hidden_values(void) {
-    begin_with("[[['s'],{'set':[1]}],[['x'],7]]", 8);
-    for (int i = 0; i < 2; i++)
-        reads(&agents[0], "[['x'],['y']]", "{'number':0,'values':[7,null]}");
-    fire(&agents[1], "[['put',['x'],5],['add',['s'],2]]");
-    for (size_t i = 0; i < 2; i++)
-        reads(&agents[i], "[['x'],['s']]", "{'number':1,'values':[5,{'set':[1,2]}]}");
-    reads(&agents[0], "[['s'],['x'],['x']]", "{'number':1,'values':[{'set':[1,2]},5,5]}");
-    fire(&agents[0], "[['put',['x'],null]]");
-    for (size_t i = 0; i < 2; i++)
-        reads(&agents[i], "[['x'],['s']]", "{'number':2,'values':[null,{'set':[1,2]}]}");
-    fire(&agents[1], "[['put',['x'],7]]");
-    reads(&agents[0], "[['x']]", "{'number':3,'values':[7]}");
-    end_all();
-}
-
-/* A call adds the move that it fires to the storage, and nothing else does. */
-static void each_call(void) {
-    uint32_t number;
-    begin_with("[[['x'],7]]", 3);
-    holds(0);
-    reads(&agents[0], "[['x']]", "{'number':0,'values':[7]}");
-    holds(0);
-    REQUIRE(fire_of(&agents[0], "{'fire':[['put',['x'],1],['put',['x'],2]],'reads':[]}") ==
-            ASM_CLASH);
-    REQUIRE(asm_learn(&agents[1], &agents[0]) == ASM_DONE);
-    REQUIRE(asm_follow(&agents[1], &number) == ASM_DONE && number == 0);
-    ANSWERS(ASM_DONE, asm_stands(&agents[1], TEXT("[[['x'],0]]"), OUT));
-    holds(0);
-    fire(&agents[0], "[['put',['x'],5]]");
-    holds(1);
-    REQUIRE(fire_of(&agents[0], "{'fire':[['put',['y'],1]],'reads':[[['x'],0]]}") == ASM_STALE);
-    reads(&agents[0], "[['x']]", "{'number':1,'values':[5]}");
-    holds(1);
-    fire(&agents[1], "[['put',['y'],1]]");
-    holds(2);
-    REQUIRE(asm_learn(&agents[0], &agents[1]) == ASM_DONE && asm_seen(&agents[0]) == 2);
-    REQUIRE(fire_of(&agents[0], "{'fire':[],'reads':[[['y'],1]]}") == ASM_STALE);
-    holds(2);
-    REQUIRE(asm_close(&storage, &number) == ASM_MISSING && number == 1);
-    holds(2);
-    fire(&agents[0], "[]");
-    holds(3);
-    for (size_t i = 0; i < 2; i++)
-        REQUIRE(fire_of(&agents[i], "{'fire':[],'reads':[]}") == ASM_FULL);
-    holds(3);
-    for (size_t i = 0; i < 2; i++)
-        REQUIRE(asm_give(&storage, &agents[i]) == ASM_DONE);
-    char *journal = journal_of(&storage);
-    is_legal(journal, 10, 3);
-    free(journal);
-    holds(3);
-    end_all();
-}
-
 /* Of 256 agents the first and the last fire, and the others read between the two moves. */
 static void many_agents(void) {
     struct asm_agent many[256] = {0};
@@ -232,13 +127,9 @@ static void many_agents(void) {
 }
 
 int main(void) {
-    for (size_t i = 0; i < sizeof wides / sizeof *wides; i++)
-        wide_move(&wides[i]);
     judged_equally();
     many_moves(1000);
     many_moves(16384);
-    hidden_values();
-    each_call();
     many_agents();
     puts("passed");
     return 0;

@@ -35,13 +35,6 @@ static int32_t fire_of(struct asm_agent *agent, const char *call) {
     return code;
 }
 
-static bool answers(struct asm_agent *agent, const char *wanted) {
-    uint8_t out[256];
-    size_t written;
-    return asm_answer(agent, out, sizeof out, &written) == ASM_DONE && written == strlen(wanted) &&
-           !memcmp(out, wanted, written);
-}
-
 /* Each call except asm_open, asm_check and asm_replay on two slots that hold nothing of their
  * kind. */
 static void on_nothing(struct asm_storage *storage, struct asm_agent *agent) {
@@ -124,30 +117,6 @@ static void numbers(void) {
         asm_free_agent(&a[i]);
 }
 
-/* The moves of an agent that is freed are missing, whether another agent has seen them or none. */
-static void abandoned_agents(void) {
-    const char *move = "{\"fire\":[],\"reads\":[]}";
-    struct asm_storage storage = {0};
-    struct asm_agent a[3] = {0};
-    uint32_t number = 9;
-    REQUIRE(open_with("[]", 4, &storage) == ASM_DONE && asm_agents(&storage, a, 3) == ASM_DONE);
-    REQUIRE(asm_moves(&storage, &number) == ASM_DONE && number == 0);
-    REQUIRE(fire_of(&a[0], move) == ASM_DONE && fire_of(&a[1], move) == ASM_DONE);
-    asm_free_agent(&a[1]);
-    REQUIRE(asm_moves(&storage, &number) == ASM_DONE && number == 2);
-    REQUIRE(asm_close(&storage, &number) == ASM_MISSING && number == 1);
-    REQUIRE(asm_give(&storage, &a[2]) == ASM_DONE);
-    REQUIRE(asm_close(&storage, &number) == ASM_MISSING && number == 1);
-    REQUIRE(asm_give(&storage, &a[0]) == ASM_DONE);
-    REQUIRE(asm_close(&storage, &number) == ASM_MISSING && number == 2);
-    REQUIRE(asm_agent(&storage, 3, &a[2]) == ASM_DONE && fire_of(&a[2], move) == ASM_DONE);
-    REQUIRE(asm_give(&storage, &a[2]) == ASM_DONE);
-    REQUIRE(asm_close(&storage, &number) == ASM_MISSING && number == 2);
-    REQUIRE(asm_moves(&storage, &number) == ASM_DONE && number == 3);
-    REQUIRE(asm_moves((void *)&a[0], &number) == ASM_EMPTY && number == 0);
-    asm_free_storage(&storage);
-}
-
 static void no_bytes(void) {
     struct asm_storage storage = {0};
     struct asm_agent agent = {0};
@@ -218,73 +187,6 @@ static void garbage(void) {
     asm_free_storage(&storage);
 }
 
-static void fires(void) {
-    struct asm_storage storage = {0};
-    struct asm_agent a[2] = {0};
-    uint8_t out[64];
-    size_t written;
-    REQUIRE(open_with("[]", 0, &storage) == ASM_CAPACITY &&
-            open_with("[]", 1048577, &storage) == ASM_CAPACITY);
-    REQUIRE(open_with("[[[\"x\"],1]]", 2, &storage) == ASM_DONE &&
-            asm_agents(&storage, a, 2) == ASM_DONE);
-    REQUIRE(fire_of(&a[0], "{\"fire\":[[\"inc\",[\"x\"],1]],\"reads\":[[[\"x\"],0]]}") == ASM_DONE);
-    REQUIRE(fire_of(&a[1], "{\"fire\":[[\"inc\",[\"x\"],1]],\"reads\":[[[\"x\"],0]]}") ==
-            ASM_STALE);
-    REQUIRE(answers(&a[1], "{\"stale\":[\"x\"]}") && answers(&a[0], "{\"fired\":1}"));
-    REQUIRE(fire_of(&a[1], "{\"fire\":[[\"add\",[\"x\"],1]],\"reads\":[]}") == ASM_CLASH);
-    REQUIRE(answers(&a[1], "{\"clash\":[[\"x\"],\"Kind\"]}"));
-    for (size_t room = 0; room < strlen("{\"clash\":[[\"x\"],\"Kind\"]}"); room++)
-        REQUIRE(asm_answer(&a[1], out, room, &written) == ASM_SMALL && written == 24);
-    REQUIRE(fire_of(&a[1], "{\"fire\":[],\"reads\":[]}") == ASM_DONE &&
-            fire_of(&a[1], "{\"fire\":[],\"reads\":[]}") == ASM_FULL);
-    REQUIRE(answers(&a[1], "\"full\"") && asm_seen(&a[1]) == 2 && asm_won(&a[1]) == 1 &&
-            asm_seen(&a[0]) == 1);
-    REQUIRE(asm_learn(&a[0], &a[1]) == ASM_DONE && asm_seen(&a[0]) == 2);
-    asm_free_storage(&storage);
-    asm_free_agent(&a[0]);
-    asm_free_agent(&a[1]);
-}
-
-static void many_locations(void) {
-    static char text[ROOM];
-    struct asm_storage storage = {0};
-    struct asm_agent agent = {0};
-    REQUIRE(open_with("[]", 4, &storage) == ASM_DONE &&
-            asm_agent(&storage, 255, &agent) == ASM_DONE);
-    REQUIRE(asm_agent(&storage, 256, &(struct asm_agent){0}) == ASM_AGENTS);
-    for (int count = 256; count <= 257; count++) {
-        int32_t wanted = count > 256 ? ASM_MANY : ASM_DONE;
-        char *at = text + sprintf(text, "[");
-        for (int i = 0; i < count; i++)
-            at += sprintf(at, "%s[\"x\",%d]", i ? "," : "", i);
-        sprintf(at, "]");
-        REQUIRE(read_of(&agent, text) == wanted);
-        at = text + sprintf(text, "{\"fire\":[],\"reads\":[");
-        for (int i = 0; i < count; i++)
-            at += sprintf(at, "%s[[\"x\",%d],0]", i ? "," : "", i);
-        sprintf(at, "]}");
-        REQUIRE(fire_of(&agent, text) == wanted);
-    }
-    asm_free_storage(&storage);
-    asm_free_agent(&agent);
-}
-
-static void many_instructions(void) {
-    static char text[2 * ROOM];
-    struct asm_storage storage = {0};
-    struct asm_agent agent = {0};
-    REQUIRE(open_with("[]", 4, &storage) == ASM_DONE && asm_agent(&storage, 0, &agent) == ASM_DONE);
-    for (int count = 4096; count <= 4097; count++) {
-        char *at = text + sprintf(text, "{\"fire\":[");
-        for (int i = 0; i < count; i++)
-            at += sprintf(at, "%s[\"put\",[\"x\"],1]", i ? "," : "");
-        sprintf(at, "],\"reads\":[]}");
-        REQUIRE(fire_of(&agent, text) == (count > 4096 ? ASM_SHAPE : ASM_DONE));
-    }
-    asm_free_storage(&storage);
-    asm_free_agent(&agent);
-}
-
 /* Agents of two storages with the same opening state and the same moves. */
 static void two_storages(void) {
     struct asm_storage s[2] = {0};
@@ -348,12 +250,8 @@ int main(void) {
     empty_slots();
     full_slots();
     numbers();
-    abandoned_agents();
     no_bytes();
     garbage();
-    fires();
-    many_locations();
-    many_instructions();
     two_storages();
     ends();
     puts("passed");

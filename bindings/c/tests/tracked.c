@@ -1,5 +1,5 @@
-/* What a refusal, or a popped move, revealed to a step belongs to its read set; and a commit may
- * record the values of the read set. */
+/* Commits that record the values of the read set, and what a refusal without room reveals to a step. What else belongs to the
+ * read set is in bindings/conformance/commits.jsonl. */
 #include "commits.h"
 
 static const char *const shelf = "[[['b'],{'bag':[['e',1]]}],[['c'],0],[['s'],{'set':[1]}]]";
@@ -15,13 +15,6 @@ static void begin_at_shelf(void) {
 static void end_at_shelf(void) {
     asm_free_move(&move);
     end_all();
-}
-
-/* The locations that a commit would name by now, of a step at 0 moves. */
-static void tracks(const char *fire, const char *reads) {
-    char offer[256];
-    snprintf(offer, sizeof offer, "{'fire':%s,'reads':%s}", fire, reads);
-    WRITES(ASM_DONE, offer, asm_offer(&step, OUT));
 }
 
 /* A move of one instruction at a location, in the slot. */
@@ -51,51 +44,18 @@ static int32_t takes_two(int way, uint8_t *out, size_t room, size_t *written) {
     }
 }
 
-/* The step acts differently if a push is refused: it is stale once the push would be accepted.
- * The same holds if the text of the refusal has no room. */
-static void refused_moves(void) {
-    for (int way = 0; way < 8; way++) {
+/* A refusal reveals a location to the step, also if its text has no room. */
+static void refusals_without_room(void) {
+    for (int way = 0; way < 4; way++) {
         size_t written;
         begin_at_shelf();
-        if (way < 4)
-            WRITES(ASM_CLASH, "{'clash':[['b'],'Short']}", takes_two(way, OUT));
-        else
-            REQUIRE(takes_two(way - 4, NULL, 0, &written) == ASM_SMALL && written > 0);
-        tracks("[]", "[[['b'],0]]");
+        REQUIRE(takes_two(way, NULL, 0, &written) == ASM_SMALL && written > 0);
+        WRITES(ASM_DONE, "{'fire':[],'reads':[[['b'],0]]}", asm_offer(&step, OUT));
         push("[['put',['soldOut'],true]]");
         fire(&agents[1], "[['bagadd',['b'],'e',1]]");
         refused(ASM_STALE, "{'stale':['b']}");
-        begins_at(1);
-        fired(2);
         end_at_shelf();
     }
-}
-
-/* A refusal reveals that the smaller locations fit, and nothing of the greater ones. */
-static void smaller_locations(void) {
-    begin_at_shelf();
-    WRITES(ASM_CLASH, "{'clash':[['c'],'Kind']}",
-           asm_push(&agents[0], &step,
-                    TEXT("[['add',['s'],2],['add',['c'],1],['bagremove',['b'],'e',1],"
-                         "['put',['a'],1]]"),
-                    OUT));
-    tracks("[]", "[[['b'],0],[['c'],0]]");
-    fire(&agents[1], "[['add',['s'],3],['put',['a'],2]]");
-    fired(2);
-    end_at_shelf();
-}
-
-/* What the step put itself reveals nothing of the state below; an updated value does. */
-static void refused_by_own_puts(void) {
-    begin_at_shelf();
-    push("[['bagadd',['b'],'f',1],['put',['c'],'none']]");
-    WRITES(ASM_CLASH, "{'clash':[['c'],'Kind']}",
-           asm_push(&agents[0], &step, TEXT("[['inc',['c'],1]]"), OUT));
-    tracks("[['bagadd',['b'],'f',1],['put',['c'],'none']]", "[]");
-    WRITES(ASM_CLASH, "{'clash':[['b'],'Short']}",
-           asm_extend(&agents[0], &step, TEXT("[['bagremove',['b'],'f',2]]"), OUT));
-    tracks("[['bagadd',['b'],'f',1],['put',['c'],'none']]", "[[['b'],0]]");
-    end_at_shelf();
 }
 
 /* A text of this many instructions or locations, each with its number. */
@@ -110,17 +70,6 @@ static const char *each(const char *format, int count) {
     return text;
 }
 
-/* That only the number of instructions is too great reveals that all locations fit. */
-static void too_many_instructions(void) {
-    const char *puts = each("[\"put\",[\"w\",%d],1]", 4096);
-    begin_at_shelf();
-    ANSWERS(ASM_DONE, asm_push(&agents[0], &step, bytes(puts), strlen(puts), OUT));
-    ANSWERS(ASM_LONG_MOVE, asm_push(&agents[0], &step, TEXT("[['bagremove',['b'],'e',1]]"), OUT));
-    fire(&agents[1], "[['bagremove',['b'],'e',1]]");
-    refused(ASM_STALE, "{'stale':['b']}");
-    end_at_shelf();
-}
-
 /* Takes this many places. */
 static void takes_places(int count) {
     static uint8_t out[2 * LONGEST];
@@ -128,108 +77,6 @@ static void takes_places(int count) {
     size_t written;
     REQUIRE(asm_get(&agents[0], &step, bytes(text), strlen(text), out, sizeof out, &written) ==
             ASM_DONE);
-}
-
-/* If a refusal or a pop has no place, it is ASM_MANY, and the step is unchanged. */
-static void no_place(void) {
-    begin_at_shelf();
-    push("[['inc',['c'],1]]");
-    takes_places(256);
-    for (int way = 0; way < 4; way++)
-        ANSWERS(ASM_MANY, takes_two(way, OUT));
-    REQUIRE(asm_pop(&step) == ASM_MANY && asm_depth(&step) == 1);
-    ANSWERS(ASM_DONE, asm_extend(&agents[0], &step, TEXT("[['inc',['c'],-1]]"), OUT));
-    asm_slot was = move.slot;
-    REQUIRE(asm_pop_move(&step, &move) == ASM_MANY && asm_depth(&step) == 1);
-    REQUIRE(is_same(move, was));
-    begins_at(0);
-    takes_places(255);
-    WRITES(ASM_CLASH, "{'clash':[['b'],'Short']}", takes_two(0, OUT));
-    fire(&agents[1], "[['bagadd',['b'],'e',1]]");
-    refused(ASM_STALE, "{'stale':['b']}");
-    end_at_shelf();
-}
-
-/* A move that was accepted and is popped revealed what it read below. */
-static void popped_moves(void) {
-    for (int is_extended = 0; is_extended < 2; is_extended++) {
-        begin_at_shelf();
-        push(is_extended ? "[['put',['a'],1]]" : "[['bagremove',['b'],'e',1],['put',['a'],1]]");
-        if (is_extended)
-            ANSWERS(ASM_DONE, asm_extend(&agents[0], &step,
-                                         TEXT("[['bagremove',['b'],'e',1]]"), OUT));
-        tracks(is_extended ? "[['put',['a'],1],['bagremove',['b'],'e',1]]"
-                           : "[['bagremove',['b'],'e',1],['put',['a'],1]]", "[]");
-        pop();
-        tracks("[]", "[[['b'],0]]");
-        push("[['put',['inStock'],true]]");
-        fire(&agents[1], "[['bagremove',['b'],'e',1]]");
-        refused(ASM_STALE, "{'stale':['b']}");
-        end_at_shelf();
-    }
-    /* Not if the step put the value, and not if it only puts. */
-    begin_at_shelf();
-    push("[['put',['c'],5]]");
-    push("[['inc',['c'],1],['put',['a'],1]]");
-    ANSWERS(ASM_DONE, asm_extend(&agents[0], &step, TEXT("[['inc',['a'],1]]"), OUT));
-    pop();
-    tracks("[['put',['c'],5]]", "[]");
-    fire(&agents[1], "[['put',['c'],'none'],['put',['a'],'none']]");
-    fired(2);
-    end_at_shelf();
-}
-
-/* A move that is popped into a slot is judged by the commit once it is pushed again: two agents
- * that raise one counter don't hinder each other. */
-static void pushed_again(void) {
-    begin_at_shelf();
-    push("[['inc',['c'],1]]");
-    push("[['inc',['c'],1],['add',['s'],2]]");
-    REQUIRE(asm_pop_move(&step, &move) == ASM_DONE);
-    tracks("[['inc',['c'],1]]", "[]");
-    asm_free_move(&move);
-    REQUIRE(asm_pop_move(&step, &move) == ASM_DONE);
-    tracks("[]", "[]");
-    ANSWERS(ASM_DONE, asm_push_move(&agents[0], &step, &move, OUT));
-    fire(&agents[1], "[['inc',['c'],1]]");
-    fired(2);
-    begins_at(2);
-    gets("['c']", 2, "2");
-    end_at_shelf();
-}
-
-/* The changes of two moves of the group may amount to nothing, and need its value all the same. */
-static void groups_of_dependencies(void) {
-    begin_at_shelf();
-    push("[['inc',['c'],1],['put',['a'],1]]");
-    ANSWERS(ASM_DONE, asm_extend(&agents[0], &step,
-                                 TEXT("[['inc',['c'],-1],['inc',['a'],1],['add',['s'],2]]"), OUT));
-    REQUIRE(asm_pop_move(&step, &move) == ASM_DONE);
-    tracks("[]", "[[['c'],0]]");
-    ANSWERS(ASM_DONE, asm_push_move(&agents[0], &step, &move, OUT));
-    tracks("[['put',['a'],2],['add',['s'],2]]", "[[['c'],0]]");
-    fire(&agents[1], "[['put',['c'],'none']]");
-    refused(ASM_STALE, "{'stale':['c']}");
-    /* Not on what the step put below the group. */
-    begins_at(1);
-    push("[['put',['c'],5]]");
-    push("[['inc',['c'],1]]");
-    ANSWERS(ASM_DONE, asm_extend(&agents[0], &step, TEXT("[['inc',['c'],-1]]"), OUT));
-    asm_free_move(&move);
-    REQUIRE(asm_pop_move(&step, &move) == ASM_DONE);
-    fire(&agents[1], "[['put',['c'],0]]");
-    fired(3);
-    end_at_shelf();
-}
-
-/* A popped move that is neither pushed again nor judged by gets leaves no trace. */
-static void no_trace(void) {
-    begin_at_shelf();
-    push("[['bagremove',['b'],'e',1]]");
-    REQUIRE(asm_pop_move(&step, &move) == ASM_DONE);
-    fire(&agents[1], "[['bagremove',['b'],'e',1]]");
-    fired(2);
-    end_at_shelf();
 }
 
 /* The journal has the values that the step read before its fire: of its gets, of what its moves
@@ -375,15 +222,7 @@ static void recorded_places(void) {
 }
 
 int main(void) {
-    refused_moves();
-    smaller_locations();
-    refused_by_own_puts();
-    too_many_instructions();
-    no_place();
-    popped_moves();
-    pushed_again();
-    groups_of_dependencies();
-    no_trace();
+    refusals_without_room();
     recorded_reads();
     false_records();
     records_of_moved_agents();

@@ -138,6 +138,11 @@ final class Calls {
     static native int asm_get_at(
             long agent, long step, long at, long value, long out, long room, long written);
 
+    static native int asm_count_of(long agent, long step, long at, int kind, long number,
+            long bytes, long len, long count);
+
+    static native int asm_size(long agent, long step, long at, long size);
+
     static native int asm_instruct(long move, long at, int verb, int kind, long number,
             long bytes, long len, int amount);
 

@@ -25,7 +25,7 @@ import java.util.Set;
  */
 final class Postgres extends Database.JdbcDatabase {
     /** How long a statement waits for a lock, and a server for a transaction's next one, in ms. */
-    private static final int PATIENCE = 60_000;
+    static int patience = 60_000;
     /**
      * What a schema has that isn't a trusted role's, or that runs something when a table is used.
      *
@@ -56,8 +56,20 @@ final class Postgres extends Database.JdbcDatabase {
                 and it.atttypid not in (20, 23, 17, 25)
             union all select 'the index ' || relname from pg_catalog.pg_index it, things
                 where it.indexrelid = things.oid and (it.indexprs is not null or it.indpred is not null)
+            union all select 'a foreign key to ' || relname from pg_catalog.pg_constraint it, things
+                where it.confrelid = things.oid and it.conrelid not in (select oid from named)
+            union all select 'a check of ' || relname from pg_catalog.pg_constraint it, things
+                where it.conrelid = things.oid and it.contype = 'c'
+                and pg_catalog.pg_get_constraintdef(it.oid) <> 'CHECK ((one = 1))'
             union all select 'a right on ' || relname from things, pg_catalog.aclexplode(relacl) it
-                where it.privilege_type = 'TRIGGER' and it.grantee not in (select oid from trusted)
+                where it.privilege_type in ('TRIGGER', 'REFERENCES')
+                and it.grantee not in (select oid from trusted)
+            union all select 'a right on ' || attname
+                from pg_catalog.pg_attribute, things, pg_catalog.aclexplode(attacl) it
+                where attrelid = things.oid and it.privilege_type = 'REFERENCES'
+                and it.grantee not in (select oid from trusted)
+            union all select 'a right to create in the schema' from own, pg_catalog.aclexplode(nspacl) it
+                where it.privilege_type = 'CREATE' and it.grantee not in (select oid from trusted)
             limit 1""";
     /**
      * Takes an agent's number: a lock of a session whose role may not write into the run counts for
@@ -80,6 +92,7 @@ final class Postgres extends Database.JdbcDatabase {
     private static final String SHUTDOWN = "57P";
     private static final String READ_ONLY = "25006";
     private static final String NOT_ALLOWED = "42501";
+    private static final String NO_LOCK = "55P03";
     private static final Set<String> MADE = Set.of("23505", "42P06", "42P07");
 
     private final String target;
@@ -114,7 +127,7 @@ final class Postgres extends Database.JdbcDatabase {
                         + " pg_catalog.set_config('synchronous_commit', 'on', false),"
                         + " pg_catalog.set_config('lock_timeout', ?, false),"
                         + " pg_catalog.set_config('idle_in_transaction_session_timeout', ?, false)",
-                "" + PATIENCE, "" + PATIENCE);
+                "" + patience, "" + patience);
         if (!writes)
             run("set default_transaction_read_only = on");
     }
@@ -143,7 +156,8 @@ final class Postgres extends Database.JdbcDatabase {
         String state = "" + thrown.getSQLState();
         if (state.startsWith(CONNECTION) || state.startsWith(SHUTDOWN) || isClosed())
             return new Database.LostException(thrown);
-        String detail = "PostgreSQL: " + thrown.getMessage();
+        String what = state.equals(NO_LOCK) ? "another session holds a lock of the run: " : "";
+        String detail = what + "PostgreSQL: " + thrown.getMessage();
         if (MADE.contains(state))
             return new FileAlreadyExistsException(target, null, detail);
         FileSystemException error = state.equals(READ_ONLY) || state.equals(NOT_ALLOWED)

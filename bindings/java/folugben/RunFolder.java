@@ -130,9 +130,9 @@ final class RunFolder implements AutoCloseable {
         }
     }
 
-    /** Flushes the names in a folder. */
-    static void force(Path folder) throws IOException {
-        try (FileChannel opened = FileChannel.open(folder, StandardOpenOption.READ)) {
+    /** Flushes a file, or the names in a folder. */
+    static void force(Path path) throws IOException {
+        try (FileChannel opened = FileChannel.open(path, StandardOpenOption.READ)) {
             opened.force(true);
         }
     }

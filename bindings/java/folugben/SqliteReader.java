@@ -46,7 +46,7 @@ final class SqliteReader extends Database.JdbcDatabase {
     private static final long SLACK = 1 << 20;
     private static final long ROW = 8;
     /** How long a statement may take, in s, and how many bytes of the file give one more. */
-    private static final long SECONDS = 20;
+    static long seconds = 20;
     private static final long BYTES_A_SECOND = 10_000_000;
     private static final ScheduledExecutorService WATCH = Executors.newScheduledThreadPool(1, work -> {
         Thread thread = new Thread(work, "folugben watch");
@@ -212,7 +212,7 @@ final class SqliteReader extends Database.JdbcDatabase {
         try (PreparedStatement statement = connection.prepareStatement(sql)) {
             bind(statement, values);
             Future<?> alarm = WATCH.schedule(() -> cancel(statement),
-                    SECONDS + seen.size / BYTES_A_SECOND, TimeUnit.SECONDS);
+                    seconds + seen.size / BYTES_A_SECOND, TimeUnit.SECONDS);
             try {
                 return statement.execute() ? rows(statement.getResultSet(), limit()) : List.of();
             } finally {

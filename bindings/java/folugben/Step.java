@@ -184,6 +184,52 @@ public sealed class Step extends StepCalls implements AutoCloseable permits Shar
     }
 
     /**
+     * Returns whether the set or the bag there has the element, and makes no value of it.
+     *
+     * <p>Where nothing is, there is no element. The location is tracked as by get, also if its
+     * value is of another kind.
+     *
+     * @throws IllegalStateException if the value is no set and no bag
+     * @throws FolugbenException as a {@link MovedException} or {@link ManyException}, as get
+     */
+    public boolean has(PreparedLocation location, Element element) {
+        return countOf(location, element) > 0;
+    }
+
+    /** Returns the same of a location that isn't prepared. */
+    public boolean has(Location location, Element element) {
+        return countOf(location, element) > 0;
+    }
+
+    /** Returns how often the set or the bag there has the element, as has does: of a set 0 or 1. */
+    public long countOf(PreparedLocation location, Element element) {
+        return counted(location, element);
+    }
+
+    /** Returns the same of a location that isn't prepared. */
+    public long countOf(Location location, Element element) {
+        try (PreparedLocation at = Objects.requireNonNull(location, "location").prepare()) {
+            return counted(at, element);
+        }
+    }
+
+    /**
+     * Returns how many elements the set or the bag there has, as has does.
+     *
+     * <p>Each of a bag counts as often as it is there. It is at most Long.MAX_VALUE.
+     */
+    public long size(PreparedLocation location) {
+        return sized(location);
+    }
+
+    /** Returns the same of a location that isn't prepared. */
+    public long size(Location location) {
+        try (PreparedLocation at = Objects.requireNonNull(location, "location").prepare()) {
+            return sized(at);
+        }
+    }
+
+    /**
      * Scans a function: returns all its locations with their values, through the pushed moves.
      *
      * <p>{@code for (Pair each : step.scan("shelf"))} takes them in ascending order.

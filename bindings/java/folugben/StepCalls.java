@@ -7,6 +7,7 @@ import java.util.function.Supplier;
 /** A step's fields, and its calls on the library, with the lock of its agent. */
 abstract sealed class StepCalls permits Step {
     static final byte[] NO_INSTRUCTIONS = {'[', ']'};
+    private static final byte[] NO_ELEMENT = {};
     final Agent agent;
     final Room room;
     final int number;
@@ -111,6 +112,57 @@ abstract sealed class StepCalls permits Step {
         synchronized (agent.slot) {
             take(location, player);
             return read.get();
+        }
+    }
+    /** A call that is passed an element's bytes, and writes a number to the agent's room. */
+    private interface MembersCall {
+        int call(long agent, long step, long at, long bytes, long number);
+    }
+    /**
+     * Has a number of the set or the bag there written to the agent's room, whose lock is held.
+     *
+     * <p>A recorded commit reads the value, which isn't known.
+     */
+    private void report(
+            PreparedLocation location, byte[] element, Turns.Player player, MembersCall call) {
+        Objects.requireNonNull(location, "location");
+        long step = slot().at;
+        Code code;
+        synchronized (location.slot) {
+            code = room.make(element, (text, out, length, written)
+                    -> call.call(agent.slot.at, step, location.slot.at, text, room.numbers()));
+            ManyException.expectPlaces(code);
+            if (code != Code.SHAPE)
+                location.expect(expectUnmoved(code));
+        }
+        size += location.length() + element.length;
+        namesMore = true;
+        player.reads(location);
+        if (code == Code.SHAPE) {
+            take(location, player);
+            throw Texts.Words.isNo("set or bag", room.readValue());
+        }
+    }
+    long counted(PreparedLocation location, Element element) {
+        Operand operand = Operand.of(element);
+        Turns.Player player = Turns.Player.call(this);
+        synchronized (agent.slot) {
+            report(location, operand.bytes(), player, (own, step, at, bytes, number)
+                    -> Calls.asm_count_of(own, step, at, operand.kind(), operand.number(), bytes,
+                            operand.bytes().length, number));
+            long count = Integer.toUnsignedLong(room.number(0));
+            player.observe("" + count);
+            return count;
+        }
+    }
+    long sized(PreparedLocation location) {
+        Turns.Player player = Turns.Player.call(this);
+        synchronized (agent.slot) {
+            report(location, NO_ELEMENT, player,
+                    (own, step, at, bytes, number) -> Calls.asm_size(own, step, at, number));
+            long found = room.wide(0);
+            player.observe("" + found);
+            return found < 0 ? Long.MAX_VALUE : found;
         }
     }
     void grow(Call call, String move) {

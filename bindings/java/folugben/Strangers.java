@@ -83,6 +83,7 @@ final class Strangers {
         try {
             Files.createFile(beside, modes);
             Files.writeString(beside, text);
+            RunFolder.force(beside);
             if (mode != null)
                 Files.setPosixFilePermissions(beside, mode);
             Files.move(beside, path, StandardCopyOption.ATOMIC_MOVE);

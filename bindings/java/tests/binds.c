@@ -58,7 +58,7 @@ int main(void) {
         if (is_commit)
             bound = (jint(JNICALL *)(JNIEnv *, jclass, jlong, jlong, jlong))method;
     }
-    EXPECT(count == 13 && bound != NULL);
+    EXPECT(count == 15 && bound != NULL);
     EXPECT(bound(&env, NULL, 1, 2, 3) == 7 && words[0] == 1 && words[1] == 2 && words[2] == 3);
     return 0;
 }

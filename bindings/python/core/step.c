@@ -261,6 +261,16 @@ static PyMethodDef methods[] = {
     {"see", (PyCFunction)step_see, METH_O,
         "see($self, places, /)\n--\n\n"
         "Return what `get` returns, of any number of locations, but track nothing: the step doesn't depend on it."},
+    {"has", METHOD(step_has), METH_FASTCALL,
+        "has($self, at, element, /)\n--\n\nReturn whether the set or the bag has the element, without making a value of it.\n\n"
+        "It is tracked as `get` is. Where nothing is, there is no element.\n\n"
+        "Raises:\n"
+        "    Error: the value is no set and no bag; the code is SHAPE, and the step depends on that.\n"
+        "    ManyError: as of `get`."},
+    {"count_of", METHOD(step_count_of), METH_FASTCALL,
+        "count_of($self, at, element, /)\n--\n\nReturn how often the set or the bag has the element, as `has` does: 0 or 1 of a set."},
+    {"size", (PyCFunction)step_size, METH_O,
+        "size($self, at, /)\n--\n\nReturn how many elements the set or the bag has, each of a bag as often as it is there, as `has` does."},
     {"scan", (PyCFunction)step_scan, METH_O,
         "scan($self, name, /)\n--\n\nReturn each location with this function name and its value, as a list of pairs, ascending.\n\n"
         "The step then depends on the complete function: a write to any location of it makes the fire `StaleError`."},

@@ -105,6 +105,79 @@ PyObject *step_see(Step *self, PyObject *place)
     return one;
 }
 
+/* Why no element was counted, or no size was found, at the location. */
+static PyObject *refuse_members(Step *self, Change *its, int32_t code)
+{
+    if (!its->is_placed || (code == ASM_EMPTY && IS_FULL(self) && IS_FULL(self->agent)))
+        return refuse_place(self->holder.core, &its->place, code);
+    if (code == ASM_EMPTY || code == ASM_MOVED || code == ASM_MANY)
+        return refuse_step(self, code);
+    size_t len;
+    const char *text = text_of_place(&its->place, &len);
+    return refuse(self->holder.core, code, "members", "(iy#y#)", (int)code, text, (Py_ssize_t)len, its->at,
+        (Py_ssize_t)(its->kind == ASM_KIND_LIST ? its->len : 0));
+}
+
+/* Counts the element in the set or the bag at the location. Returns -1 with an exception. */
+static int64_t count_member(Step *self, PyObject *const *words, Py_ssize_t given, const char *name)
+{
+    Change its;
+    uint32_t count = 0;
+    int64_t result = -1;
+    if (ODD(given != 2)) {
+        PyErr_Format(PyExc_TypeError, "%s() takes 2 positional arguments but %zd were given", name, given);
+        return -1;
+    }
+    if (change_begin(self->holder.core, &its, words, given, ASM_ADD))
+        return -1;
+    if (!UNREADY(&self->agent->holder) && !PLACE_UNREADY(&its.place) && !settle(self)) {
+        int32_t code = prepare_place(&its.place);
+        its.is_placed = code == ASM_DONE;
+        if (its.is_placed)
+            code = asm_count_of(SLOT(self->agent), SLOT(self), AT(&its.place), its.kind, its.number, its.at, its.len, &count);
+        self->size += change_size(&its);
+        grow_by_name(self);
+        if (ODD(code != ASM_DONE))
+            refuse_members(self, &its, code);
+        else
+            result = count;
+    }
+    change_end(&its);
+    return result;
+}
+
+PyObject *step_has(Step *self, PyObject *const *words, Py_ssize_t given)
+{
+    int64_t count = count_member(self, words, given, "has");
+    return count < 0 ? NULL : PyBool_FromLong(count > 0);
+}
+
+PyObject *step_count_of(Step *self, PyObject *const *words, Py_ssize_t given)
+{
+    int64_t count = count_member(self, words, given, "count_of");
+    return count < 0 ? NULL : PyLong_FromLongLong(count);
+}
+
+PyObject *step_size(Step *self, PyObject *place)
+{
+    Change its = {0};
+    uint64_t size = 0;
+    PyObject *result = NULL;
+    if (place_begin(self->holder.core, &its.place, place))
+        return NULL;
+    if (!UNREADY(&self->agent->holder) && !PLACE_UNREADY(&its.place) && !settle(self)) {
+        int32_t code = prepare_place(&its.place);
+        its.is_placed = code == ASM_DONE;
+        if (its.is_placed)
+            code = asm_size(SLOT(self->agent), SLOT(self), AT(&its.place), &size);
+        self->size += change_size(&its);
+        grow_by_name(self);
+        result = ODD(code != ASM_DONE) ? refuse_members(self, &its, code) : PyLong_FromUnsignedLongLong(size);
+    }
+    place_end(&its.place);
+    return result;
+}
+
 PyObject *step_scan(Step *self, PyObject *name)
 {
     Py_ssize_t len;

@@ -52,9 +52,20 @@ _FOREIGN = """with trusted as (select oid from pg_catalog.pg_roles where rolname
         and it.atttypid not in (20, 23, 17, 25)
     union all select 'the index ' || relname from pg_catalog.pg_index it, things
         where it.indexrelid = things.oid and (it.indexprs is not null or it.indpred is not null)
+    union all select 'a foreign key to ' || relname from pg_catalog.pg_constraint it, things
+        where it.confrelid = things.oid and it.conrelid not in (select oid from named)
+    union all select 'a check of ' || relname from pg_catalog.pg_constraint it, things
+        where it.conrelid = things.oid and it.contype = 'c' and pg_catalog.pg_get_constraintdef(it.oid) <> 'CHECK ((one = 1))'
     union all select 'a right on ' || relname from things, pg_catalog.aclexplode(relacl) it
-        where it.privilege_type = 'TRIGGER' and it.grantee not in (select oid from trusted)
+        where it.privilege_type in ('TRIGGER', 'REFERENCES') and it.grantee not in (select oid from trusted)
+    union all select 'a right on ' || attname from pg_catalog.pg_attribute, things, pg_catalog.aclexplode(attacl) it
+        where attrelid = things.oid and it.privilege_type = 'REFERENCES' and it.grantee not in (select oid from trusted)
+    union all select 'a right to create in the schema' from own, pg_catalog.aclexplode(nspacl) it
+        where it.privilege_type = 'CREATE' and it.grantee not in (select oid from trusted)
     limit 1"""
+# The schema, and the table `run` in it.
+_FOUND = """select own.oid, it.oid from (select 1) always left join pg_catalog.pg_namespace own on own.nspname = ?
+    left join pg_catalog.pg_class it on it.relnamespace = own.oid and it.relname = 'run'"""
 # Reserve agents' numbers: an advisory lock of a session whose role may not write into the run holds nothing. The locks' own
 # numbers can't be guessed, so that nobody else holds them before.
 _HOLD = """{lock}; select pg_catalog.bool_and(case when exists (
@@ -64,8 +75,8 @@ _HOLD = """{lock}; select pg_catalog.bool_and(case when exists (
         and it.objid::bigint % 256 = own.agent and pg_catalog.has_table_privilege(session.usesysid, it.classid, 'UPDATE'))
     then false else pg_catalog.pg_try_advisory_lock({table}::integer, own.number) end)
     from unnest(?::integer[], ?::integer[]) as own(agent, number)"""
-# The schemas that were found to be of trusted roles, by their targets.
-_trusted: dict[str, int] = {}
+# The schemas that were found to be of trusted roles, each with its table `run`, by their targets.
+_trusted: dict[str, tuple[int, int]] = {}
 
 
 def _parts(target: str) -> tuple[str, str, str]:
@@ -135,12 +146,13 @@ class Postgres:
             settings["default_transaction_read_only"] = "on"
         sql = ", ".join("pg_catalog.set_config(?, ?, false)" for _ in settings)
         values = [str(it) for pair in settings.items() for it in pair]
-        schema = self.run(f"select {sql}, (select oid from pg_catalog.pg_namespace where nspname = ?)", (*values, self._schema))[0][-1]
-        # Its roles are known if this process has found it before, so that it connects again in a moment.
-        if schema is None or _trusted.get(self._target) != schema:
+        (found,) = self.run(f"select {sql}; {_FOUND}", (*values, self._schema))
+        # Its roles are known if this process has found it before, so that it connects again in a moment. A schema without a run
+        # is looked at again, as somebody may make one in it.
+        if None in found or _trusted.get(self._target) != found:
             self._expect_own()
-        if schema is not None:
-            _trusted[self._target] = schema
+        if None not in found:
+            _trusted[self._target] = found
 
     def _expect_own(self) -> None:
         """Check that the schema and all in it are of a trusted role, and run nothing.

@@ -11,6 +11,7 @@ from typing import TYPE_CHECKING, Any, NoReturn
 from . import _core
 from ._errors import BusyError, ClashError, CommitClashError, Error, MissingError, OverError
 from ._errors import ahead, expect, explain, refusal
+from ._files import replacing
 from ._guards import ForkedError
 from ._library import Code, INC, TEXT, TextForm
 from ._play import back_off, no_rule, play
@@ -116,13 +117,16 @@ def not_full(seen: int) -> NoReturn:
 
 
 def leave(storage: "Storage", path: str, error: BaseException | None) -> None:
-    """Write the journal at the end of a `with`."""
+    """Write the journal at the end of a `with`: the file is complete, or as it was."""
     try:
-        pathlib.Path(path).write_bytes(storage.close_journal())
+        journal = storage.close_journal()
     except MissingError as missing:
         if error is None:
             raise
         error.add_note(f"the journal wasn't written: {missing}")
+    else:
+        with replacing(pathlib.Path(path)) as file:
+            file.write(journal)
 
 
 def read(code: int, form: int, text: bytes) -> None:
@@ -227,6 +231,17 @@ def unite(code: int, own: int, others: int) -> None:
 
 def location(code: int, text: bytes) -> None:
     expect_read(code, TextForm.LOCATIONS, b"[%b]" % text if code == Code.SHAPE else text)
+
+
+def members(code: int, place: bytes, element: bytes) -> None:
+    """Raise why no element is counted at a location; the element is the text of a list, or empty."""
+    if element and code in (Code.NOT_JSON, Code.SHAPE):
+        addition = b'[["add",%b,%b]]' % (place, element)
+        if code == Code.NOT_JSON or explain(TextForm.MOVE, INSTRUCTIONS % addition):
+            expect_part(code, INSTRUCTIONS, addition)
+    if code == Code.SHAPE:
+        expect(code, detail=f"the value of {place.decode()} is no set and no bag")
+    expect(code, detail="a set or a bag is no element" if code == Code.OPERAND else "")
 
 
 def instruct(code: int, place: bytes, verb: int, kind: int, number: int, text: bytes | None, amount: int) -> None:

@@ -6,7 +6,7 @@ from unittest import mock
 
 import folugben
 import own
-from folugben import Agent, BadJournalError, BusyError, ClashError, Error, FullError, MissingError, StaleError, Storage, check, replay
+from folugben import Agent, BadJournalError, BusyError, ClashError, Error, MissingError, StaleError, Storage, check, replay
 from folugben import _library
 from threads import in_threads
 
@@ -33,13 +33,6 @@ class Agents(unittest.TestCase):
             call(*arguments)
         return caught.exception.code
 
-    def test_a_read_and_a_fire(self):
-        agent = self.storage.agent(0)
-        self.assertEqual(agent.read(COUNT), (0, [0]))
-        self.assertEqual(agent.fire([["put", ["count"], 1]], [(("count",), 0)]), 1)
-        self.assertEqual(agent.answer(), {"fired": 1})
-        self.assertEqual((agent.seen, agent.won), (1, 1))
-
     def test_a_stale_fire_fires_nothing(self):
         first, second = self.storage.agent(0), self.storage.agent(1)
         first.fire([["put", ["count"], 1]])
@@ -55,12 +48,6 @@ class Agents(unittest.TestCase):
         for clash in (caught.exception, pickle.loads(pickle.dumps(caught.exception))):
             self.assertEqual((clash.at, clash.cause), (("x",), "Two"))
             self.assertEqual(str(clash), folugben.error_text(folugben.Code.CLASH) + ': ["x"], Two: two different values are put')
-
-    def test_a_full_storage(self):
-        agent = self.storage.agent(0)
-        agent.fire([])
-        agent.fire([])
-        self.assertRaises(FullError, agent.fire, [])
 
     def test_a_missing_agent(self):
         first, second = self.storage.agent(0), self.storage.agent(1)
@@ -101,13 +88,6 @@ class Agents(unittest.TestCase):
         agent.free()
         with agent:
             pass
-
-    def test_a_number_is_made_once(self):
-        self.storage.agent(0).give()
-        self.storage.agent(1).free()
-        for number in (0, 1):
-            self.assertEqual(self.code_of(self.storage.agent, number), folugben.Code.NUMBER)
-        self.assertEqual(self.storage.agent(2).read(COUNT), (0, [0]))
 
     def test_the_moves_of_an_agent_that_was_freed_are_missing(self):
         first, abandoned = self.storage.agent(0), self.storage.agent(1)
@@ -179,20 +159,12 @@ class Agents(unittest.TestCase):
         self.assertRaises(TypeError, self.storage.agent, 0.5)
         self.assertEqual(folugben.error_text(2**32), folugben.error_text(36))
 
-    def test_codes(self):
+    def test_agents_of_another_storage(self):
         agent, other = self.storage.agent(0), Storage()
         self.addCleanup(other.free)
-        self.assertEqual(self.code_of(Storage, (), 0), folugben.Code.CAPACITY)
-        self.assertEqual(self.code_of(Storage, [1]), folugben.Code.SHAPE)
-        self.assertEqual(self.code_of(self.storage.agent, 256), folugben.Code.AGENTS)
-        self.assertEqual(self.code_of(agent.read, COUNT * 257), folugben.Code.MANY)
-        self.assertEqual(self.code_of(agent.read, [["1"]]), folugben.Code.SHAPE)
-        self.assertEqual(self.code_of(agent.answer), folugben.Code.NO_ANSWER)
         self.assertEqual(self.code_of(other.give, agent), folugben.Code.OTHER)
         self.assertEqual(self.code_of(agent.learn, other.agent(1)), folugben.Code.OTHER)
         self.assertEqual(self.code_of(agent.learn, agent), folugben.Code.EMPTY)
-        agent.give()
-        self.assertEqual(self.code_of(agent.read, COUNT), folugben.Code.EMPTY)
 
     def test_journals(self):
         with self.storage.agent(0) as agent:
@@ -220,7 +192,7 @@ class Agents(unittest.TestCase):
 
     def test_an_error_has_a_message(self):
         busy = BusyError(folugben.Code.BUSY, (3, 67))
-        message = "64 offers were lost (the agent had seen 3 moves at the start of the call and 67 at its end)"
+        message = "64 attempts to append were lost to other agents (the agent had seen 3 moves at the start of the call and 67 at its end)"
         self.assertEqual(str(busy), message)
         self.assertEqual(str(pickle.loads(pickle.dumps(busy))), message)
         self.assertEqual(str(Error(folugben.Code.NOT_JSON)), "not JSON")
@@ -246,15 +218,7 @@ class Agents(unittest.TestCase):
             self.assertEqual(str(caught.exception), message)
             self.assertEqual(str(pickle.loads(pickle.dumps(caught.exception))), message)
 
-    def test_texts_are_explained(self):
-        self.assertEqual(folugben.explain(folugben.TextForm.LOCATIONS, b'[["x"]]'), "")
-        self.assertEqual(folugben.explain(folugben.TextForm.MOVE, b'[["x"]'), "not JSON: cut off after byte 6")
-        script = b'{"agents":[[[[["inc",["x"],1],["putt",["x"],1]]]]],"init":[]}'
-        self.assertEqual(folugben.explain(folugben.TextForm.SCRIPT, script.replace(b"putt", b"put")), "")
-        self.assertEqual(
-            folugben.explain(folugben.TextForm.SCRIPT, script),
-            'agent 0 step 0 block 0 instruction 1: unknown word "putt"',
-        )
+    def test_texts_of_no_form(self):
         for form in (-1, 5, 2**32):
             self.assertEqual(self.code_of(folugben.explain, form, b"[]"), folugben.Code.NO_FORM)
 

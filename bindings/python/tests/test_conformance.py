@@ -3,31 +3,43 @@
 bindings/conformance has the table, and describes its lines.
 """
 import json
+import re
 import unittest
+from collections import Counter
 
 import folugben
 import own
 from checkout import ROOT
-from folugben import Auditor, BadJournalError, ClashError, Error, LargeError, StaleError, Storage
+from folugben import Auditor, BadJournalError, ClashError, Error, LargeError, Location, Move, StaleError, Storage
 
 TABLES = ROOT / "bindings" / "conformance"
 FORMS = ["LOCATIONS", "MOVE", "STATE", "EVENT", "SCRIPT"]
 
 
+def expanded(line):
+    """Return the line with the items that each {"each":COUNT,"of":ITEM} stands for."""
+    return re.sub(r'\{"each":(\d+),"of":([^{}]*)\}', lambda it: ",".join(it[2].replace('"#"', str(at)) for at in range(int(it[1]))), line)
+
+
 class Replayer:
     """Runs the calls of a table's lines; each method returns the answer."""
 
-    def __init__(self):
+    def __init__(self, record):
+        self.record = record
         self.case("")
 
     def case(self, _name):
-        self.storage, self.agents, self.steps, self.text = None, {}, {}, b""
+        self.storage, self.agents, self.steps, self.gathered, self.text = None, {}, {}, {}, b""
+        self.reads = Counter()
 
     def open(self, state, capacity):
-        self.storage, self.agents = Storage(state, capacity), {}
+        self.storage, self.agents = Storage(state, capacity, record=self.record), {}
 
     def next(self, capacity):
         self.storage, self.agents = self.storage.next(capacity), {}
+
+    def go_on(self, own, capacity):
+        self.storage, self.agents = self.agents[own].go_on(capacity), {}
 
     def agent(self, own):
         self.agents[own] = self.storage.agent(own)
@@ -38,14 +50,28 @@ class Replayer:
     def give(self, own):
         self.agents[own].give()
 
+    def abandon(self, own):
+        self.agents[own].abandon()
+
     def learn(self, own, other):
         self.agents[own].learn(self.agents[other])
 
     def read(self, own, places):
-        return dict(zip(("number", "values"), self.agents[own].read(places)))
+        reading = dict(zip(("number", "values"), self.agents[own].read(places)))
+        self.reads[own] += 1
+        return reading
 
     def peek(self, own, places):
         return dict(zip(("number", "values"), self.agents[own].peek(places)))
+
+    def peek_at(self, own, place):
+        number, value = self.agents[own].peek(Location(place))
+        return {"number": number, "values": [value]}
+
+    def answer(self, own):
+        answer = self.agents[own].answer()
+        is_object = isinstance(answer, dict)
+        return {key: list(it) if key in ("clash", "values") else it for key, it in answer.items()} if is_object else answer
 
     def fire(self, own, instructions, reads, scans):
         return {"fired": self.agents[own].fire(instructions, reads, scans)}
@@ -90,6 +116,31 @@ class Replayer:
     def on_step(self, name, own, *words):
         return getattr(self.steps[own], name)(*words)
 
+    def get_at(self, own, place):
+        return [self.steps[own].get(Location(place))]
+
+    def push_move(self, own, move):
+        self.steps[own].push(self.gathered[move])
+
+    def extend_move(self, own, move):
+        self.steps[own].extend(self.gathered[move])
+
+    def pop_move(self, own, move):
+        self.gathered[move] = self.steps[own].pop_move()
+
+    def move(self, number):
+        return self.gathered.setdefault(number, Move())
+
+    def gather(self, move, instructions):
+        for word, *words in instructions:
+            getattr(self.move(move), word.replace("bag", "bag_"))(*words)
+
+    def unite(self, move, other):
+        self.move(move).unite(self.move(other))
+
+    def drop(self, move):
+        self.gathered.pop(move, None)
+
     def depth(self, own):
         return self.steps[own].depth
 
@@ -103,7 +154,13 @@ class Replayer:
         self.text = self.storage.close_journal()
 
     def journal(self):
-        return list(folugben.check(self.text))
+        calls, moves = folugben.check(self.text)
+        # Commits have recorded the reads that no agent made by itself.
+        own = sum(self.reads[number] for number, agent in self.agents.items() if not agent._is_full)
+        return [calls - (self.text.count(b',"call":{"read":') - own), moves]
+
+    def lines(self):
+        return list(map(json.loads, self.text.splitlines()[1:]))
 
     def check(self, text):
         return list(folugben.check(text))
@@ -116,10 +173,10 @@ class Replayer:
     def explain(self, form, text):
         return folugben.explain(FORMS.index(form), text)
 
-    def answer(self, name, *words):
+    def call(self, name, *words):
         """Return the answer to a call, in the words of the table."""
         try:
-            if name in ("get", "see", "push", "extend", "pop", "offer"):
+            if name in ("get", "see", "has", "count_of", "size", "push", "extend", "pop", "offer"):
                 return self.on_step(name, *words)
             return getattr(self if hasattr(self, name) else folugben, name)(*words)
         except StaleError as stale:
@@ -143,6 +200,9 @@ def refused(error):
 
 def in_python(call, wanted):
     """Return an answer of the table in Python's own values."""
+    is_error = isinstance(wanted, dict) and "error" in wanted
+    if call == "get_at" and not is_error:
+        return [own.value(wanted)]
     if isinstance(wanted, dict):
         if "said" in wanted and call not in ("check", "audit"):
             # Of values, and not of a line of JSON.
@@ -169,19 +229,28 @@ class Conformance(unittest.TestCase):
         # True and 1 are different values.
         self.assertEqual(repr(answer), repr(wanted), where)
 
-    def test_each_call_of_the_table_has_its_answer(self):
-        for name in ("moves", "calls", "steps", "journals"):
-            replayer, case, count = Replayer(), "", 0
-            for number, line in enumerate((TABLES / f"{name}.jsonl").read_text().splitlines(), 1):
-                call, *words = json.loads(line)
-                if call == "case":
-                    (case,) = words
-                    replayer.case(case)
-                    continue
+    def replay(self, name, record):
+        """Make the calls of a table, and return how many they are."""
+        replayer, case, count, times = Replayer(record), "", 0, 1
+        for number, line in enumerate((TABLES / f"{name}.jsonl").read_text().splitlines(), 1):
+            call, *words = json.loads(expanded(line))
+            if call == "case":
+                (case,) = words
+                replayer.case(case)
+            elif call == "repeat":
+                (times,) = words
+            # The journal of agents that record has their reads too.
+            elif call != "lines" or not record:
                 *words, wanted = [*words, None] if call == "end" else words
-                self.assert_answer(call, replayer.answer(call, *words), wanted, f"{name}.jsonl:{number}, {case}: {line[:200]}")
-                count += 1
-            self.assertGreater(count, 20, name)
+                for _ in range(times):
+                    self.assert_answer(call, replayer.call(call, *words), wanted, f"{name}.jsonl:{number}, {case}: {line[:200]}")
+                count, times = count + 1, 1
+        return count
+
+    def test_each_call_of_the_table_has_its_answer(self):
+        for name in ("moves", "calls", "polls", "steps", "gathered", "commits", "journals"):
+            for record in (False, True):
+                self.assertGreater(self.replay(name, record), 20, name)
 
 
 if __name__ == "__main__":

@@ -4,17 +4,12 @@ import unittest
 
 import own
 import random_moves
-from folugben import ClashError, Error, LargeError, ManyError, aggregate, compose
+from folugben import ClashError, Error, LargeError, aggregate, compose
 
 X = ["x"]
 
 
 class Moves(unittest.TestCase):
-    def test_too_many_instructions(self):
-        half = [["put", ["x", k], k] for k in range(4096)]
-        self.assertTrue(compose(half, []) == sorted((word, tuple(at), value) for word, at, value in half))
-        self.assertRaises(ManyError, compose, half, [["put", ["y"], 1]])
-        self.assertEqual(len(aggregate([], half)), 4096)
 
     def test_a_refused_text_has_a_place(self):
         for message, call, *arguments in [

@@ -26,6 +26,7 @@ class Names(unittest.TestCase):
             with self.assertRaises(ConflictError) as caught, agent.step() as step:
                 step.bag_remove("bag", "e")
                 rival.fire([("put", "bag", None)])
+                self.assertEqual(step.try_commit(), 0)
                 step.commit()
             self.assertEqual((type(caught.exception), caught.exception.at, caught.exception.cause), (CommitClashError, ("bag",), "Kind"))
             with self.assertRaises(ConflictError) as caught, agent.step() as step:

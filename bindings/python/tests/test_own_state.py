@@ -6,8 +6,7 @@ import json
 import unittest
 
 import folugben
-import own
-from folugben import Error, ManyError, StaleError, Storage, check, replay
+from folugben import Error, ManyError, Storage, check
 from threads import in_threads
 
 COUNT = [["count"]]
@@ -24,22 +23,6 @@ class OwnState(unittest.TestCase):
         with self.assertRaises(Error) as caught:
             call(*arguments)
         return caught.exception.code
-
-    def test_a_fire_depends_on_the_complete_functions_of_its_scans(self):
-        number, found = self.agent.scan("f")
-        self.assertEqual(self.agent.fire([["put", ["count"], len(found)]], scans=[("f", number), ("none", number)]), 1)
-        # A phantom: a location that had no value makes it stale, and is reported.
-        self.rival.fire([["put", ["f", 7], 1]])
-        with self.assertRaises(StaleError) as caught:
-            self.agent.fire([["put", ["count"], 9]], [[["g"], 0]], [["g", 0], ["f", number]])
-        self.assertEqual(caught.exception.at, ("f", 7))
-        self.assertEqual(self.agent.peek(COUNT), (2, [2]))
-        number, found = self.agent.scan("f")
-        self.assertEqual((number, len(found)), (2, 3))
-        self.assertEqual(self.agent.fire([["put", ["count"], 3]], scans=iter([["f", number]])), 3)
-        # At most 256 of both together.
-        self.assertEqual(self.code_of(self.agent.fire, [], [], [["f", 0]] * 257), folugben.Code.MANY)
-        self.assertEqual(self.agent.fire([], [[["g"], 0]] * 128, [["none", 0]] * 128), 4)
 
     def test_scans_that_are_refused(self):
         where = "scan 2: "
@@ -65,32 +48,10 @@ class OwnState(unittest.TestCase):
     def test_a_number_that_is_yet_to_come_is_refused(self):
         message = "read 2: "
         reads = [[["g"], 0], [["f", 1], 1]]
-        for _ in range(2):
-            for call, *arguments in [(self.agent.fire, [], reads), (self.agent.stands, reads)]:
-                with self.assertRaises(Error) as caught:
-                    call(*arguments)
-                self.assertEqual(caught.exception.code, folugben.Code.AHEAD)
-                self.assertEqual(str(caught.exception), message + '["f", 1] is named at 1, and the agent has seen 0')
-            # The agent has not seen this move, though it was fired.
-            self.rival.fire([])
-        self.assertEqual((self.agent.seen, self.agent.misses), (0, 0))
-        self.assertEqual(self.agent.follow(), 2)
-        self.assertIsNone(self.agent.stands(reads))
-        self.assertEqual(self.agent.fire([], reads), 3)
-        self.assertEqual(self.code_of(self.rival.stands, [[["g"], 3]] + [[["g"], 0]] * 256), folugben.Code.AHEAD)
-        self.rival.learn(self.agent)
-        self.assertIsNone(self.rival.stands([[["g"], 3]]))
-
-    def test_polls_leave_no_receipt(self):
-        for _ in range(50):
-            self.agent.follow()
-            self.agent.peek(COUNT)
-            self.agent.state()
-            self.agent.scan("f")
-            self.agent.stands([[["count"], 0]])
-        self.agent.give()
-        self.rival.give()
-        self.assertEqual(check(self.storage.close_journal()), (0, 0))
+        for call, *arguments in [(self.agent.fire, [], reads), (self.agent.stands, reads)]:
+            with self.assertRaises(Error) as caught:
+                call(*arguments)
+            self.assertEqual(str(caught.exception), message + '["f", 1] is named at 1, and the agent has seen 0')
 
     def test_texts_longer_than_the_buffer(self):
         long = "x" * 5000
@@ -112,64 +73,15 @@ class OwnState(unittest.TestCase):
             self.assertEqual(str(caught.exception), message)
         self.assertRaises(ManyError, self.agent.stands, [[["x"], 0]] * 257)
         self.assertRaises(Error, self.agent.scan, "\ud800")
-        self.agent.give()
-        for call, *arguments in [
-            (self.agent.follow,), (self.agent.state,), (self.agent.peek, COUNT), (self.agent.scan, "f"),
-            (self.agent.stands, []),
-        ]:
-            self.assertEqual(self.code_of(call, *arguments), folugben.Code.EMPTY)
 
 
 class Next(unittest.TestCase):
-    def test_a_storage_continues_where_another_ended(self):
-        with Storage(STATE, 2) as first:
-            with self.assertRaises(Error) as caught:
-                first.next()
-            self.assertEqual(caught.exception.code, folugben.Code.NO_JOURNAL)
-            with first.agent(0) as agent:
-                agent.fire([["put", ["count"], 5], ["add", ["f", True], "more"]])
-                agent.fire([["put", ["g"], None]])
-                self.assertRaises(folugben.FullError, agent.fire, [])
-            journal = first.close_journal()
-            second = first.next(3)
-            self.assertEqual(first.close_journal(), journal)
-        # It needs the first one no more, and its agents have their numbers again.
-        with second:
-            with second.agent(0) as agent:
-                self.assertEqual(agent.read([["count"], ["f", 1], ["g"]]), (0, [5, "one", None]))
-                for number in (1, 2, 3):
-                    self.assertEqual(agent.fire([["put", ["count"], number]]), number)
-                self.assertRaises(folugben.FullError, agent.fire, [])
-            later = second.close_journal()
-        self.assertEqual((check(journal), check(later)), ((3, 2), (5, 3)))
-        header = json.loads(later.splitlines()[0])
-        self.assertEqual(repr(own.pairs(header["init"])), repr(replay(journal)))
-        self.assertEqual(header["capacity"], 3)
-
-    def test_a_number_of_the_storage_before_is_none_of_the_next_one(self):
-        with Storage(STATE) as first, first.agent(0) as agent:
-            for count in (1, 2):
-                agent.fire([["put", ["count"], count]])
-            number, (count,) = agent.read(COUNT)
-            agent.give()
-            first.close_journal()
-            second = first.next()
-        with second, second.agent(0) as agent, second.agent(1) as rival:
-            rival.fire([["put", ["count"], 3]])
-            # Nothing was written above this number, so that the rival's update would be lost.
-            with self.assertRaises(Error) as caught:
-                agent.fire([["put", ["count"], count + 1]], [[["count"], number]])
-            self.assertEqual(caught.exception.code, folugben.Code.AHEAD)
-            self.assertIn('read 1: ["count"] is named at 2, and the agent has seen 0', str(caught.exception))
-            number, (count,) = agent.read(COUNT)
-            self.assertEqual(agent.fire([["put", ["count"], count + 1]], [[["count"], number]]), 2)
-            self.assertEqual(rival.read(COUNT), (2, [4]))
 
     def test_numbers_and_slots(self):
         storage = Storage()
         with storage.agent(0):
             pass
-        storage.close_journal()
+        journal = storage.close_journal()
         for capacity in (0, 2**20 + 1, 2**32 + 1, -1):
             with self.assertRaises(Error) as caught:
                 storage.next(capacity)
@@ -177,6 +89,7 @@ class Next(unittest.TestCase):
         self.assertRaises(TypeError, storage.next, 0.5)
         with storage.next() as following:
             self.assertIsInstance(following, Storage)
+            self.assertEqual(storage.close_journal(), journal)
         for again in (storage, following):
             again.free()
             with self.assertRaises(Error) as caught:

@@ -14,7 +14,7 @@ from unittest import mock
 
 import servers
 import shared_plays
-from folugben import BrokenError, DamagedError, Error, NestedError, SharedRun, _postgres, audit
+from folugben import BrokenError, DamagedError, Error, NestedError, SharedRun, _postgres, _tables, audit
 from folugben._log import LogReader
 from folugben._reading import verify
 from rooms import COUNT, INIT, raised
@@ -191,10 +191,13 @@ class OnPostgres(Leads, shared_plays.Plays):
 
     def test_connections_that_are_cut(self):
         def cut():
+            pause = 0.02
             while not stop.is_set():
                 self.server.run("select pg_terminate_backend(pid) from pg_stat_activity where pid <> pg_backend_pid() and "
                                 "backend_type = 'client backend'")
-                time.sleep(0.02)
+                # On a busy machine a connection takes longer than the first pauses.
+                time.sleep(pause)
+                pause *= 1.02
 
         def work(own):
             with run.agent(own) as agent:
@@ -243,13 +246,66 @@ class OnPostgres(Leads, shared_plays.Plays):
                           (f'create trigger t before update on "{run}".run for each row execute function traps.t()', "a trigger of run"),
                           (f'drop trigger t on "{run}".run; create rule r as on update to "{run}".run do nothing', "a rule of run"),
                           (f'drop rule r on "{run}".run; alter table "{run}".call alter scans set default now()', "the default scans"),
-                          (f'alter table "{run}".call alter scans drop default; create table "{run}".heir() inherits("{run}".call)', "a heir of call")):
+                          (f'alter table "{run}".call alter scans drop default; create table "{run}".heir() inherits("{run}".call)', "a heir of call"),
+                          (f'drop table "{run}".heir; create table traps.key(place bigint references "{run}".call)', "a foreign key to call"),
+                          (f'drop table traps.key; alter table "{run}".run add constraint c check (moves > 0)', "a check of run"),
+                          (f'alter table "{run}".run drop constraint c; grant trigger on "{run}".run to public', "a right on run"),
+                          (f'revoke trigger on "{run}".run from public; grant references on "{run}".call to public', "a right on call"),
+                          (f'revoke references on "{run}".call from public; grant references (place) on "{run}".call to public', "a right on place"),
+                          (f'revoke references (place) on "{run}".call from public; grant create on schema "{run}" to public', "a right to create in the schema")):
             theirs.execute(sql)
             _postgres._trusted.clear()
             for call in (SharedRun, audit) if what else ():
                 with self.assertRaisesRegex(PermissionError, what):
                     call(trusted)
         theirs.execute("select count(*) from traps.seen")
+        self.assertEqual(theirs.fetchall(), [(0,)])
+
+    def test_a_run_that_a_stranger_makes_in_a_schema_that_was_found_empty(self):
+        theirs, run = self.foreign(), self.target.partition("#")[2]
+        self.server.run(f'create schema "{run}"; grant usage on schema "{run}" to mallory')
+        for call in SharedRun, audit:
+            self.assertRaises(FileNotFoundError, call, self.target)
+        self.server.run(f'grant create on schema "{run}" to mallory')
+        for sql in _tables.TABLES.format(inside=f'"{run}".', blob="bytea").split(";"):
+            theirs.execute(sql)
+        theirs.execute(f'insert into "{run}".run values (1, 1, 9, 0); grant all on all tables in schema "{run}" to public')
+        for right in "grant", "revoke":
+            self.server.run(f'{right} create on schema "{run}" {"to" if right == "grant" else "from"} mallory')
+            for call in lambda it: SharedRun(it, INIT), SharedRun, audit:
+                with self.assertRaisesRegex(PermissionError, "is of another role"):
+                    call(self.target)
+
+    def test_agents_of_two_roles(self):
+        # What a role holds that may write into the run is in use for another one.
+        self.foreign()
+        with SharedRun(self.target.replace("folugben@", "mallory@"), INIT) as run, run.agent(0) as agent:
+            name = self.target.partition("#")[2]
+            with SharedRun(self.target.replace("#", "&owner=mallory#")) as other:
+                with self.assertRaisesRegex(Error, "agent 0 is in use by another process"):
+                    other.agent(0)
+                with other.agent(1) as second:
+                    self.assertEqual((agent.play(raised)[0], second.play(raised)[0]), (1, 2))
+                    self.assertRaisesRegex(Error, "agent 1 is in use by another process", run.agent, 1)
+            self.assertEqual(self.server.run(f"select count(*) from pg_locks where locktype = 'advisory' and classid = '\"{name}\".run'::regclass"), [(1,)])
+            run.agent(1).give()
+
+    def test_no_name_is_looked_up_as_the_database_says(self):
+        # Operators of a schema that the database puts first are run by nothing.
+        theirs = self.foreign()
+        theirs.execute("create schema if not exists lures; create table if not exists lures.seen(role text); grant all on lures.seen to public;"
+                       "grant usage on schema lures to public;"
+                       "create or replace function lures.equal(name, name) returns bool language sql as 'insert into lures.seen values (current_user); select true';")
+        with contextlib.suppress(Exception):
+            theirs.execute("create operator lures.= (function = lures.equal, leftarg = name, rightarg = name)")
+        self.server.run("alter database postgres set search_path = lures, pg_catalog")
+        try:
+            with SharedRun(self.target, INIT) as run, run.agent(0) as agent:
+                agent.play(raised)
+            self.assert_is_run(1)
+        finally:
+            self.server.run("alter database postgres reset search_path")
+        theirs.execute("select count(*) from lures.seen")
         self.assertEqual(theirs.fetchall(), [(0,)])
 
     def test_locks_of_strangers_hold_nothing_up(self):
@@ -288,6 +344,21 @@ class OnPostgres(Leads, shared_plays.Plays):
             log._run("update {inside}run set joined = 0")
         self.assertEqual(log._run("select current_setting('search_path')"), [("pg_catalog, pg_temp",)])
         log.close()
+
+    def test_passwords_are_in_no_text(self):
+        target = self.target.replace("folugben@", "folugben:hunter2@")
+        with self.assertRaises(BrokenError) as caught, SharedRun(target, INIT, 3) as run, run.agent(0) as agent:
+            agent.play(raised)
+            seen = [repr(run), str(run), repr(agent), *map(repr, threading.enumerate())]
+            self.alter("drop table piece")
+            for _ in range(9):
+                agent.play(raised)
+        seen += [str(caught.exception), repr(caught.exception.__cause__)]
+        for call in SharedRun, audit, verify:
+            with self.assertRaises((FileNotFoundError, DamagedError)) as caught:
+                call(target + "2" if call is SharedRun else target)
+            seen += [str(caught.exception), repr(caught.exception)]
+        self.assertEqual([it for it in seen if "hunter2" in it], [])
 
     def test_two_processes_make_a_run(self):
         def work(_):

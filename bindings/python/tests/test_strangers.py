@@ -12,7 +12,7 @@ import zlib
 from unittest import mock
 
 import folugben.__main__ as command
-from folugben import BrokenError, DamagedError, Run, SharedRun, audit, import_run, part, states
+from folugben import BrokenError, DamagedError, Run, SharedRun, Storage, _replica, audit, check, import_run, part, states
 from folugben._files import plain, shown
 from folugben._log import LogReader
 from folugben._reading import is_stored_run, save, texts, verify
@@ -169,6 +169,25 @@ with folugben.SharedRun(sys.argv[1], {"count": 0}, 3) as run, run.agent(0) as ag
             run.state()
         self.assertRegex(str(caught.exception.__cause__), "no call of an agent below 256")
 
+    def test_a_call_that_is_refused_memory_is_not_repeated_without_end(self):
+        class Applier:
+            tries = 0
+
+            def _fire(self, *_):
+                self.tries += 1
+                raise MemoryError
+
+        applier = Applier()
+        with mock.patch.object(_replica, "_PAUSE", 0):
+            self.assertRaises(MemoryError, _replica._fired, applier, b"{}", b"[]")
+        self.assertEqual(applier.tries, 101)
+
+    def test_a_header_with_spaces_is_imported(self):
+        file = self.room / "file"
+        file.write_text('{ "agents": 0, "capacity": 9, "events": 0, "init": [ [ ["count"], 0 ] ], "version": 2 }\n')
+        ran = self.run_command("import", file, self.room / "made")
+        self.assertEqual((ran.returncode, ran.stdout, audit(self.room / "made")), (0, b"0 moves in 1 parts\n", (0, 0, 1)), ran)
+
     def test_a_piece_takes_no_more_memory_than_it_may_have(self):
         path = self.shared()
         self.alter(path, "update piece set data = ? where segment = 1", zlib.compress(b"\0" * 2**30))
@@ -239,6 +258,24 @@ with folugben.SharedRun(sys.argv[1], {"count": 0}, 3) as run, run.agent(0) as ag
         self.assertEqual(self.run_command("audit", broken, "-o", out).returncode, 1)
         self.assertIn("part 2", out.read_text())
         self.assertEqual([it.name for it in self.room.iterdir() if it.name.startswith(".")], [])
+
+    def test_a_journal_of_a_storage_is_complete_or_as_it_was(self):
+        out = self.room / "out"
+        out.write_text("backup")
+        out.chmod(0o640)
+        with mock.patch("os.replace", side_effect=OSError(28, "full")), self.assertRaisesRegex(OSError, "full"):
+            with Storage(INIT, 10, journal=out):
+                pass
+        self.assertEqual((out.read_text(), os.listdir(self.room)), ("backup", ["out"]))
+        with Storage(INIT, 10, journal=out):
+            self.assertEqual(out.read_text(), "backup")
+        self.assertEqual((check(out.read_bytes()), out.stat().st_mode & 0o777), ((0, 0), 0o640))
+        (self.room / "symlink").symlink_to(out)
+        os.mkfifo(self.room / "pipe")
+        for name in "symlink", "pipe", ".":
+            with self.assertRaises(OSError), Storage(INIT, 10, journal=self.room / name):
+                pass
+        self.assertEqual(sorted(os.listdir(self.room)), ["out", "pipe", "symlink"])
 
     def test_an_output_that_is_interrupted_is_as_it_was(self):
         out = self.room / "out"

@@ -1,35 +1,21 @@
 //! Does the calls of the table of conformance, and compares the answers: bindings/conformance/README.md says what its lines are.
 //! They are done twice, the second time by agents that record.
+mod answers;
+
 use crate::holder::{Holder, commit};
 use crate::instruction::{Instruction, Move};
 use crate::json::{Json, ToJson, read};
 use crate::{
-    Agent, AuditError, Auditor, Cause, Conflict, Error, Journal, JournalError, Legality, Limit, Location, MoveNumber,
-    Step, Storage, aggregate, compose, sys,
+    Agent, Auditor, Error, Journal, Legality, Location, MoveNumber, Prepared, PreparedMove, Step, Storage, aggregate,
+    compose, sys,
 };
+use answers::{Answer, Refusal, last_word, matches_wanted};
 use std::collections::BTreeMap;
 use std::io::Write;
 use std::path::{Path, PathBuf};
 use std::{env, fs, mem};
 
-/// Why a call has no answer.
-#[derive(Debug)]
-enum Refusal {
-    /// The words are none of the crate's types.
-    Untyped,
-    Call(Error),
-    Journal(JournalError),
-    Audit(AuditError),
-    Illegal(u64),
-}
-
-impl From<Error> for Refusal {
-    fn from(error: Error) -> Refusal {
-        Refusal::Call(error)
-    }
-}
-
-type Answer = Result<String, Refusal>;
+const TABLES: [&str; 7] = ["moves", "calls", "polls", "steps", "gathered", "commits", "journals"];
 
 fn typed<T>(word: Option<T>) -> Result<T, Refusal> {
     word.ok_or(Refusal::Untyped)
@@ -40,8 +26,29 @@ fn places(word: Json) -> Result<Vec<Location>, Refusal> {
 }
 
 fn move_of(word: Json) -> Result<Move, Refusal> {
-    let instructions: Option<Vec<Instruction>> = typed(word.list())?.into_iter().map(Json::instruction).collect();
-    Ok(typed(instructions)?.into_iter().collect())
+    Ok(instructions(word)?.into_iter().collect())
+}
+
+fn instructions(word: Json) -> Result<Vec<Instruction>, Refusal> {
+    typed(typed(word.list())?.into_iter().map(Json::instruction).collect())
+}
+
+fn prepared(word: Json) -> Result<Prepared, Refusal> {
+    Ok(Prepared::new(&typed(word.location())?)?)
+}
+
+/// Appends the instruction to a move that is gathered.
+fn gather(into: &mut PreparedMove, instruction: Instruction) -> Result<(), Error> {
+    let at = Prepared::new(instruction.at())?;
+    let result = match instruction {
+        Instruction::Put(_, value) => into.put(&at, value),
+        Instruction::Add(_, element) => into.add(&at, element),
+        Instruction::Remove(_, element) => into.remove(&at, element),
+        Instruction::BagAdd(_, element, amount) => into.bag_add(&at, element, amount),
+        Instruction::BagRemove(_, element, amount) => into.bag_remove(&at, element, amount),
+        Instruction::Inc(_, by) => into.inc(&at, by),
+    };
+    result.map(drop)
 }
 
 fn named<T>(word: Json, name: impl Fn(Json) -> Option<T>) -> Result<Vec<(T, MoveNumber)>, Refusal> {
@@ -63,6 +70,8 @@ struct Replayer {
     agents: BTreeMap<u8, Agent>,
     /// How many reads each agent made by itself.
     read: BTreeMap<u8, u64>,
+    /// The moves that are gathered, or were popped.
+    gathered: BTreeMap<u8, PreparedMove>,
     journal: Option<Journal>,
 }
 
@@ -121,6 +130,11 @@ impl Replayer {
                 let journal = self.journal.as_ref().unwrap();
                 return checked(journal, self.recorded(journal));
             }
+            "lines" => {
+                let text = String::from_utf8_lossy(self.journal.as_ref().unwrap().as_bytes()).into_owned();
+                return Ok(format!("[{}]", text.lines().skip(1).collect::<Vec<_>>().join(",")));
+            }
+            "gather" | "unite" | "drop" => self.gather(name, words)?,
             "check" => return checked(&next().text().unwrap().into_bytes().into(), 0),
             "replay" => {
                 let journal = Journal::from(next().text().unwrap().into_bytes());
@@ -137,12 +151,39 @@ impl Replayer {
         null()
     }
 
+    fn gather(&mut self, name: &str, mut words: impl Iterator<Item = Json>) -> Result<(), Refusal> {
+        let number = typed(words.next().unwrap().number())?;
+        if name == "drop" {
+            self.gathered.remove(&number);
+        } else if name == "unite" {
+            let other_number = words.next().unwrap().number().unwrap();
+            let other = self.gathered.remove(&other_number).unwrap_or_default();
+            let united = self.gathered.entry(number).or_default().unite(&other).map(drop);
+            self.gathered.insert(other_number, other);
+            united?;
+        } else {
+            let into = self.gathered.entry(number).or_default();
+            instructions(words.next().unwrap())?.into_iter().try_for_each(|it| gather(into, it))?;
+        }
+        Ok(())
+    }
+
     fn of_agent(&mut self, name: &str, number: u8, mut words: impl Iterator<Item = Json>) -> Answer {
         let mut next = || words.next().unwrap();
         match name {
             "agent" => drop(self.agents.insert(number, self.storage().agent(number)?)),
             "take" => drop(self.agents.insert(number, self.storage().take(number)?)),
             "give" => drop(self.agents.remove(&number)),
+            "abandon" => self.agents.remove(&number).unwrap().abandon(),
+            "go_on" => {
+                let storage = self.agent(number)?.go_on(typed(next().number())?)?;
+                self.open(storage);
+            }
+            "answer" => return Ok(String::from_utf8_lossy(&self.agent(number)?.last_answer()?).into_owned()),
+            "peek_at" => {
+                let (number, value) = self.agent(number)?.peek_at(&prepared(next())?)?;
+                return Ok(format!("{{\"number\":{number},\"values\":[{}]}}", value.json()));
+            }
             "learn" => {
                 let other_number = next().number().unwrap();
                 let mut other = self.agents.remove(&other_number).unwrap();
@@ -182,6 +223,21 @@ impl Replayer {
         Ok("null".to_owned())
     }
 
+    /// A call of the step with a move that is gathered.
+    fn of_move(&mut self, name: &str, number: u8, its: u8) -> Answer {
+        let mut gathered = self.gathered.remove(&its).unwrap_or_default();
+        let result = self.step(number, |step| {
+            match name {
+                "push_move" => step.push_prepared(&gathered)?,
+                "extend_move" => step.extend_prepared(&gathered)?,
+                _ => gathered = step.pop_move()?,
+            }
+            Ok("null".to_owned())
+        });
+        self.gathered.insert(its, gathered);
+        result
+    }
+
     fn of_step(&mut self, name: &str, number: u8, mut words: impl Iterator<Item = Json>) -> Answer {
         let mut next = || words.next().unwrap();
         match name {
@@ -194,8 +250,20 @@ impl Replayer {
             "end" => self.agent(number)?.slots.end_step(),
             "commit" => return Ok(fired(commit(self.agent(number)?)?.into())),
             "get" => return self.step(number, |it| Ok(it.get_each(&places(next())?)?.as_slice().json())),
+            "get_at" => return self.step(number, |it| Ok(it.get(&prepared(next())?)?.json())),
             "see" => return self.step(number, |it| Ok(it.see(&places(next())?)?.as_slice().json())),
             "get_all" => return self.step(number, |it| Ok(it.scan(&next().text().unwrap())?.as_slice().json())),
+            "has" | "count_of" => {
+                let (at, element) = (typed(next().location())?, typed(next().element())?);
+                let has = name == "has";
+                return self.step(number, |it| {
+                    Ok(if has { it.has(at, element)?.to_string() } else { it.count_of(at, element)?.to_string() })
+                });
+            }
+            "size" => {
+                let at = typed(next().location())?;
+                return self.step(number, |it| Ok(it.size(at)?.to_string()));
+            }
             // The step of an agent that was returned is gone with it.
             "depth" if !self.agents.contains_key(&number) => return Ok("0".to_owned()),
             "depth" => return self.step(number, |it| Ok(it.depth().to_string())),
@@ -208,6 +276,7 @@ impl Replayer {
             }
             "push" => drop(self.step(number, |it| Ok(it.push(&move_of(next())?).map(|()| String::new())?))?),
             "extend" => drop(self.step(number, |it| Ok(it.extend(&move_of(next())?).map(|()| String::new())?))?),
+            "push_move" | "extend_move" | "pop_move" => return self.of_move(name, number, next().number().unwrap()),
             "pop" => drop(self.step(number, |it| Ok(it.pop().map(|()| String::new())?))?),
             other => panic!("{other}"),
         }
@@ -233,130 +302,49 @@ fn audited(run: &str) -> Answer {
     Ok(format!("[{},{},{}]", counts.calls, counts.moves, counts.parts))
 }
 
-fn of_journal(fault: &JournalError) -> (&'static str, Vec<u64>) {
-    match fault {
-        JournalError::NotJson(line) => ("NOT_JSON", vec![*line]),
-        JournalError::Shape(line) => ("SHAPE", vec![*line]),
-        JournalError::Version => ("VERSION", vec![]),
-        JournalError::Cut => ("CUT", vec![]),
-        JournalError::Memory => ("MEMORY", vec![]),
-    }
+/// The line with the items that each `{"each":COUNT,"of":ITEM}` stands for.
+fn expanded(line: &str) -> String {
+    let Some((before, rest)) = line.split_once("{\"each\":") else { return line.to_owned() };
+    let (each, behind) = rest.split_once('}').unwrap();
+    let (count, item) = each.split_once(",\"of\":").unwrap();
+    let items: Vec<_> = (0..count.parse().unwrap()).map(|at: u32| item.replace("\"#\"", &at.to_string())).collect();
+    format!("{before}{}{}", items.join(","), expanded(behind))
 }
 
-fn of_audit(error: &AuditError) -> (&'static str, Vec<u64>) {
-    match error {
-        AuditError::Illegal { part, call } => ("ILLEGAL", vec![*call, *part]),
-        AuditError::Journal { part, fault } => {
-            let (name, mut numbers) = of_journal(fault);
-            numbers.push(*part);
-            (name, numbers)
-        }
-        AuditError::Apart { part } => ("APART", vec![*part]),
-        AuditError::LongLine { part } => ("LONG_LINE", vec![*part]),
-        AuditError::Memory => ("MEMORY", vec![]),
-    }
-}
-
-/// Returns the code of a call's error; what it is said to be if the table has that as an answer.
-fn of_call(error: &Error) -> Result<(&'static str, Vec<u64>), String> {
-    let clash = |at: &Location, cause: Cause| format!("{{\"clash\":[{},\"{cause:?}\"]}}", at.json());
-    Ok(match error {
-        Error::Conflict(Conflict::Stale(at)) => return Err(format!("{{\"stale\":{}}}", at.json())),
-        Error::Conflict(Conflict::Clash { at, cause }) | Error::Clash { at, cause } => return Err(clash(at, *cause)),
-        Error::Large(at) => return Err(format!("{{\"large\":{}}}", at.json())),
-        Error::Full => ("FULL", vec![]),
-        Error::Many(Limit::Places(_)) => ("MANY", vec![]),
-        Error::Many(Limit::Instructions) => ("LONG_MOVE", vec![]),
-        Error::Deep => ("DEEP", vec![]),
-        Error::Range(it) if it.what == "the capacity" => ("CAPACITY", vec![]),
-        Error::Range(it) if it.what == "the number of a read" => ("AHEAD", vec![]),
-        Error::NoMove => ("NO_PUSH", vec![]),
-        Error::NoJournal => ("NO_JOURNAL", vec![]),
-        Error::NotGiven(_) => ("NO_AGENT", vec![]),
-        Error::NotFull => ("NOT_FULL", vec![]),
-        Error::NumberTaken(_) => ("NUMBER", vec![]),
-        Error::Missing(number) => ("MISSING", vec![number.get()]),
-        Error::OtherStorage => ("OTHER", vec![]),
-        Error::Refused(_) => ("SHAPE", vec![]),
-        Error::Unknown(sys::EMPTY) => ("EMPTY", vec![]),
-        Error::Unknown(sys::MOVED) => ("MOVED", vec![]),
-        other => return Err(other.to_string()),
-    })
-}
-
-/// Whether the call was answered so; an answer that can't be in the crate's types is refused by them.
-fn matches_wanted(answer: &Answer, wanted: &str) -> bool {
-    let refusal = match answer {
-        Ok(answer) => return read(answer.as_bytes()) == read(wanted.as_bytes()),
-        Err(Refusal::Untyped) => {
-            return ["SHAPE", "AGENTS"].iter().any(|it| wanted.starts_with(&format!("{{\"error\":\"{it}\"")));
-        }
-        Err(refusal) => refusal,
-    };
-    let (name, numbers) = match refusal {
-        Refusal::Call(error) => match of_call(error) {
-            Ok(answer) => answer,
-            Err(answer) => return read(answer.as_bytes()) == read(wanted.as_bytes()),
-        },
-        Refusal::Journal(fault) => of_journal(fault),
-        Refusal::Audit(error) => of_audit(error),
-        Refusal::Illegal(call) => ("ILLEGAL", vec![*call]),
-        Refusal::Untyped => return false,
-    };
-    let Some(Json::Object(mut wanted)) = read(wanted.as_bytes()) else { return false };
-    let is_reported = match (wanted.remove("said").and_then(Json::text), refusal) {
-        (Some(said), Refusal::Call(error)) => error.to_string() == said,
-        _ => true,
-    };
-    let wanted_numbers: Option<Vec<u64>> =
-        wanted.remove("numbers").and_then(Json::list).map(|it| it.into_iter().filter_map(Json::number).collect());
-    is_reported
-        && wanted.remove("error").and_then(Json::text).as_deref() == Some(name)
-        && wanted_numbers.is_none_or(|it| it == numbers)
-}
-
-/// The text of the last word of a line, split at its commas outside of brackets and strings.
-fn last_word(line: &str) -> &str {
-    let (mut depth, mut is_in_text, mut is_escaped, mut begin) = (0, false, false, 1);
-    for (i, byte) in line.bytes().enumerate() {
-        match byte {
-            _ if is_escaped => is_escaped = false,
-            b'\\' => is_escaped = true,
-            b'"' => is_in_text = !is_in_text,
-            b'[' | b'{' if !is_in_text => depth += 1,
-            b']' | b'}' if !is_in_text => depth -= 1,
-            b',' if !is_in_text && depth == 1 => begin = i + 1,
-            _ => {}
-        }
-    }
-    &line[begin..line.len() - 1]
+/// The name of a line's call, and the words behind it, of which the last is the answer.
+fn call_of(line: &str) -> (String, Vec<Json>) {
+    let mut words = read(line.as_bytes()).and_then(Json::list).unwrap();
+    (words.remove(0).text().unwrap(), words)
 }
 
 /// How many calls of a table there are, and how many of them can't be written in Rust.
 fn replay(path: &Path, is_recording: bool) -> (usize, usize) {
     let (mut replayer, mut calls, mut untyped) = (Replayer::new(is_recording), 0, 0);
-    for (i, line) in fs::read_to_string(path).unwrap().lines().enumerate() {
-        let mut words = read(line.as_bytes()).and_then(Json::list).unwrap();
-        let name = words.remove(0).text().unwrap();
+    let mut times = 1;
+    for (i, line) in fs::read_to_string(path).unwrap().lines().map(expanded).enumerate() {
+        let line = line.as_str();
+        let (name, mut words) = call_of(line);
         match name.as_str() {
             "case" => replayer = Replayer::new(is_recording),
             // The sentences alone; errors of the crate have them.
             "explain" => {}
+            // The journal of agents that record has their reads too.
+            "lines" if is_recording => {}
+            "repeat" => times = words.remove(0).number().unwrap(),
             _ => {
                 let wanted = if name == "end" { "null" } else { last_word(line) };
-                if name != "end" {
-                    words.pop();
+                for _ in 0..mem::replace(&mut times, 1) {
+                    // A step that isn't there ends nothing.
+                    let answer = replayer.answer(&name, call_of(line).1);
+                    assert!(
+                        matches_wanted(&answer, wanted),
+                        "{}:{}: {line:.300} answered {answer:?}",
+                        path.display(),
+                        i + 1
+                    );
+                    untyped += usize::from(matches!(answer, Err(Refusal::Untyped)));
+                    calls += 1;
                 }
-                // A step that isn't there ends nothing.
-                let answer = replayer.answer(&name, words);
-                assert!(
-                    matches_wanted(&answer, wanted),
-                    "{}:{}: {line:.300} answered {answer:?}",
-                    path.display(),
-                    i + 1
-                );
-                untyped += usize::from(matches!(answer, Err(Refusal::Untyped)));
-                calls += 1;
             }
         }
     }
@@ -373,8 +361,7 @@ fn calls_are_answered_as_in_the_table() {
         return;
     }
     for is_recording in [false, true] {
-        let result =
-            ["moves", "calls", "steps", "journals"].map(|it| replay(&folder.join(format!("{it}.jsonl")), is_recording));
+        let result = TABLES.map(|it| replay(&folder.join(format!("{it}.jsonl")), is_recording));
         assert!(result.iter().all(|(calls, untyped)| *calls > 15 && untyped * 8 < *calls), "{result:?}");
     }
 }

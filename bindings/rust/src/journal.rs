@@ -183,18 +183,22 @@ impl fmt::Debug for Journal {
     }
 }
 
-fn is_ok(code: i32, output: &[u8], instructions: &[&Move]) -> Result<(), Error> {
-    if code != sys::NOT_JSON && code != sys::SHAPE {
-        return done_or_refusal(code, output);
-    }
-    for it in instructions {
-        let text = format!("{{\"fire\":{},\"reads\":[]}}", it.instructions().json());
-        match done_with(code, sys::FORM_MOVE, &text) {
-            Err(Error::Refused(why)) if why.is_empty() => {}
-            result => return result,
+/// The form of a fire of this move, and its text.
+fn move_text(instructions: &Move) -> (i32, String) {
+    (sys::FORM_MOVE, format!("{{\"fire\":{},\"reads\":[]}}", instructions.instructions().json()))
+}
+
+/// As `done_or_refusal`, for a call that took two texts of these forms.
+fn is_ok(code: i32, output: &[u8], texts: impl FnOnce() -> [(i32, String); 2]) -> Result<(), Error> {
+    if code == sys::NOT_JSON || code == sys::SHAPE {
+        for (form, text) in texts() {
+            match done_with(code, form, &text) {
+                Err(Error::Refused(why)) if why.is_empty() => {}
+                result => return result,
+            }
         }
     }
-    Err(Error::Refused("the state isn't one".to_owned()))
+    done_or_refusal(code, output)
 }
 
 /// Returns the updates of the move on the state, in ascending order of locations.
@@ -211,7 +215,7 @@ pub fn aggregate(state: &[(Location, Value)], instructions: &Move) -> Result<Vec
     let (code, output) = text_of_call(|out, room, written| unsafe {
         sys::asm_aggregate(state.as_ptr(), state.len(), text.as_ptr(), text.len(), out, room, written)
     });
-    is_ok(code, &output, &[instructions])?;
+    is_ok(code, &output, || [(sys::FORM_STATE, state), move_text(instructions)])?;
     answer(&output, Json::pairs)
 }
 
@@ -228,7 +232,7 @@ pub fn compose(first: &Move, second: &Move) -> Result<Move, Error> {
     let (code, output) = text_of_call(|out, room, written| unsafe {
         sys::asm_compose(one.as_ptr(), one.len(), other.as_ptr(), other.len(), out, room, written)
     });
-    is_ok(code, &output, &[first, second])?;
+    is_ok(code, &output, || [move_text(first), move_text(second)])?;
     let instructions: Option<Vec<Instruction>> =
         answer(&output, |it| Some(it.list()?.into_iter().map(Json::instruction).collect()))?;
     let instructions = instructions.ok_or_else(|| Error::Refused("an unknown answer".to_owned()))?;

@@ -64,6 +64,7 @@ mod holder;
 mod instruction;
 mod journal;
 mod json;
+mod members;
 mod number;
 mod own_state;
 mod owned_slot;

@@ -59,6 +59,19 @@ pub(crate) fn value_of(head: &sys::Value, bytes: &[u8]) -> Result<Value, Error> 
     })
 }
 
+/// The kind, the number and the bytes of a value, as calls take it.
+pub(crate) fn operand_of(value: Value) -> (i32, i64, String) {
+    match value {
+        Value::Undef => (sys::KIND_UNDEF, 0, String::new()),
+        Value::Bool(is_true) => (sys::KIND_BOOL, i64::from(is_true), String::new()),
+        Value::Num(number) => (sys::KIND_NUM, number, String::new()),
+        Value::Text(text) => (sys::KIND_TEXT, 0, text),
+        list @ Value::List(_) => (sys::KIND_LIST, 0, list.json()),
+        set @ Value::Set(_) => (sys::KIND_SET, 0, set.json()),
+        bag @ Value::Bag(_) => (sys::KIND_BAG, 0, bag.json()),
+    }
+}
+
 /// A move that is gathered at prepared locations, instruction by instruction.
 ///
 /// A text is made of lists, sets and bags alone. What [`Step::pop_move`](crate::Step::pop_move) returns counts as one
@@ -104,15 +117,7 @@ impl PreparedMove {
     }
 
     fn instruct(&mut self, verb: i32, at: &Prepared, operand: Value, amount: u32) -> Result<&mut PreparedMove, Error> {
-        let (kind, number, bytes) = match operand {
-            Value::Undef => (sys::KIND_UNDEF, 0, String::new()),
-            Value::Bool(is_true) => (sys::KIND_BOOL, i64::from(is_true), String::new()),
-            Value::Num(number) => (sys::KIND_NUM, number, String::new()),
-            Value::Text(text) => (sys::KIND_TEXT, 0, text),
-            list @ Value::List(_) => (sys::KIND_LIST, 0, list.json()),
-            set @ Value::Set(_) => (sys::KIND_SET, 0, set.json()),
-            bag @ Value::Bag(_) => (sys::KIND_BAG, 0, bag.json()),
-        };
+        let (kind, number, bytes) = operand_of(operand);
         // SAFETY: the slots are held by this thread, and the texts outlive the call.
         let code = unsafe {
             let (slot, place) = (self.slot.at(), at.slot.at());

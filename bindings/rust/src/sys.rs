@@ -181,6 +181,17 @@ unsafe extern "C" {
         room: usize,
         written: *mut usize,
     ) -> i32;
+    pub(crate) fn asm_count_of(
+        agent: *mut Slot,
+        step: *mut Slot,
+        at: *mut Slot,
+        kind: i32,
+        number: i64,
+        bytes: *const u8,
+        len: usize,
+        count: *mut u32,
+    ) -> i32;
+    pub(crate) fn asm_size(agent: *mut Slot, step: *mut Slot, at: *mut Slot, size: *mut u64) -> i32;
     pub(crate) fn asm_instruct(
         instrs: *mut Slot,
         at: *mut Slot,

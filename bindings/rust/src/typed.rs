@@ -15,12 +15,17 @@ pub trait FromValue: sealed::FromValue {}
 
 pub(crate) mod sealed {
     use crate::error::Error;
+    use crate::prepared::Prepared;
     use crate::step::Step;
     use crate::value::{Location, Value};
 
     pub trait Place {
         fn get(&self, step: &Step<'_>) -> Result<Value, Error>;
         fn location(&self) -> Location;
+        /// Makes a call with the location, prepared for it alone if it isn't yet.
+        fn with_prepared<T>(&self, call: impl FnOnce(&Prepared) -> Result<T, Error>) -> Result<T, Error> {
+            call(&Prepared::new(&self.location())?)
+        }
     }
 
     pub trait FromValue: Sized {
@@ -66,6 +71,10 @@ impl sealed::Place for Prepared {
     fn location(&self) -> Location {
         Prepared::location(self).clone()
     }
+
+    fn with_prepared<T>(&self, call: impl FnOnce(&Prepared) -> Result<T, Error>) -> Result<T, Error> {
+        call(self)
+    }
 }
 
 impl<P: sealed::Place + ?Sized> sealed::Place for &P {
@@ -75,6 +84,10 @@ impl<P: sealed::Place + ?Sized> sealed::Place for &P {
 
     fn location(&self) -> Location {
         (*self).location()
+    }
+
+    fn with_prepared<T>(&self, call: impl FnOnce(&Prepared) -> Result<T, Error>) -> Result<T, Error> {
+        (*self).with_prepared(call)
     }
 }
 

@@ -3,7 +3,9 @@ mod common;
 
 use common::{Room, add_one, count, fired, numbers, open};
 use folugben::{AuditError, Check, EndCause, Error, JournalError, Run, RunOptions, Value, audit_run};
+use std::ffi::OsStr;
 use std::io::ErrorKind;
+use std::os::unix::ffi::OsStrExt;
 use std::os::unix::fs::{MetadataExt, chown, symlink};
 use std::process::Command;
 use std::{env, fs};
@@ -107,9 +109,34 @@ fn pipes_are_not_waited_for() {
     for path in [&pipe, &segment] {
         assert!(Command::new("mkfifo").arg(path).status().unwrap().success());
     }
-    let error = audit_run(room.path()).unwrap_err();
-    assert!(matches!(error, Error::Damaged { segment: 0, .. }), "{error}");
+    for error in [audit_run(room.path()).err(), Run::resume(room.path(), Check::All).err()] {
+        assert!(matches!(error, Some(Error::Damaged { segment: 0, .. })), "{error:?}");
+    }
+    for error in [audit_run(&pipe).err(), Run::resume(&pipe, Check::All).err(), Run::open([], &pipe, 5).err()] {
+        assert!(matches!(error, Some(Error::File { .. })), "{error:?}");
+    }
     fs::remove_file(pipe).unwrap();
+}
+
+#[test]
+fn other_names_are_no_segments() {
+    let room = Room::new("names");
+    open(&room, 5).close().unwrap();
+    fs::write(room.path().join("notes"), "x").unwrap();
+    fs::write(room.path().join(OsStr::from_bytes(b"\xff\xfe")), "x").unwrap();
+    assert_eq!(audit_run(room.path()).map(numbers), Ok((1, 0, 0)));
+    Run::resume(room.path(), Check::All).unwrap().close().unwrap();
+    for name in [&b"\xff.journal"[..], b"zzz.journal", b"00000001-0-0-0.journal"] {
+        let file = room.path().join(OsStr::from_bytes(name));
+        fs::write(&file, "x").unwrap();
+        for error in [audit_run(room.path()).err(), Run::resume(room.path(), Check::Last).err()] {
+            assert!(
+                matches!(&error, Some(Error::Damaged { segment: 1, why }) if why.contains("is no name")),
+                "{error:?}"
+            );
+        }
+        fs::remove_file(file).unwrap();
+    }
 }
 
 #[test]

@@ -37,25 +37,6 @@ fn agents_go_between_threads_and_storages_are_shared() {
 }
 
 #[test]
-fn a_step_sees_what_it_pushed_and_fires_as_one_move() {
-    let storage = open(&[(count(), 7.into())]);
-    let mut agent = storage.agent(3).unwrap();
-    assert_eq!(agent.number(), 3);
-    let mut step = agent.step().unwrap();
-    assert_eq!(step.get(count()).unwrap().as_num(), Some(7));
-    step.push(&Move::new().put(count(), 8)).unwrap();
-    step.push(&Move::new().inc(count(), 2)).unwrap();
-    assert_eq!(step.depth(), 2);
-    assert_eq!(step.get(count()).unwrap(), Value::from(10));
-    step.pop().unwrap();
-    assert_eq!(step.get(count()).unwrap(), Value::from(8));
-    assert_eq!(step.commit().unwrap(), 1);
-    assert_eq!(agent.follow().unwrap(), 1);
-    assert_eq!(agent.state().unwrap(), (n(1), vec![(count(), Value::from(8))]));
-    assert_eq!((agent.seen(), agent.won()), (n(1), 1));
-}
-
-#[test]
 fn a_stale_step_reports_its_location_and_is_played_again() {
     let storage = open(&[(count(), 0.into())]);
     let (mut one, mut other) = (storage.agent(0).unwrap(), storage.agent(1).unwrap());
@@ -122,25 +103,6 @@ fn a_removal_that_is_short_by_now_is_played_again() {
 }
 
 #[test]
-fn a_fire_depends_on_scanned_functions() {
-    let task = |n: i64| Location::new("task").arg(n);
-    let storage = open(&[(task(1), 7.into())]);
-    let (mut one, mut other) = (storage.agent(0).unwrap(), storage.agent(1).unwrap());
-    let count_all = |tasks: usize| Move::new().put(count(), i64::try_from(tasks).unwrap());
-    let (number, tasks) = one.scan("task").unwrap();
-    assert_eq!(one.fire_over(&count_all(tasks.len()), &[], &[("task", number), ("none", n(0))]), Ok(n(1)));
-    other.play(|step| step.put(task(2), 8)).unwrap();
-    assert_eq!(one.fire(&count_all(1), &[(task(1), n(0))]), Ok(n(3)));
-    assert_eq!(one.fire_over(&count_all(1), &[], &[("task", number)]), Err(stale(task(2))));
-    assert!(matches!(one.fire_over(&count_all(1), &[], &[("task", n(4))]), Err(Error::Range(_))));
-    assert!(matches!(one.fire_over(&count_all(1), &[], &[("task", n(1 << 32))]), Err(Error::Range(_))));
-    let (number, tasks) = one.scan("task").unwrap();
-    assert_eq!((number, tasks.len()), (n(3), 2));
-    assert_eq!(one.fire_over(&count_all(2), &[(count(), number)], &[("task", number)]), Ok(n(4)));
-    assert_eq!(one.fire_over(&count_all(2), &[], &[("task", n(0)); 257]), Err(Error::Many(Limit::Places(Some(257)))));
-}
-
-#[test]
 fn values_of_each_kind_come_back() {
     let elements = [
         Element::Undef,
@@ -177,128 +139,54 @@ fn values_of_each_kind_come_back() {
 }
 
 #[test]
-fn prepared_moves_do_what_moves_do() {
-    let places = ["n", "s", "b", "t"].map(Location::new);
-    let opening = [Value::from(1), Value::Set(BTreeSet::new()), Value::Bag(BTreeMap::new()), Value::Undef];
-    let storage = Storage::open(places.iter().cloned().zip(opening), 10).unwrap();
+fn prepared_moves_count_and_refuse_instructions() {
+    let storage = open(&[]);
     let mut agent = storage.agent(0).unwrap();
-    let [n, s, b, t] = places.each_ref().map(|it| Prepared::new(it).unwrap());
+    let (text, bag) = (Prepared::new(&"t".into()).unwrap(), Prepared::new(&"b".into()).unwrap());
+    let list = Element::List(vec![1.into(), Element::List(vec!["a".into()])]);
     let mut gathered = PreparedMove::new();
-    gathered.put(&t, "text").unwrap().inc(&n, -4).unwrap().add(&s, 1).unwrap().bag_add(&b, true, 3).unwrap();
-    let result = gathered.bag_add(&b, 1, 0).err().unwrap();
+    gathered.put(&text, list.clone()).unwrap().put(&bag, BTreeMap::from([(list.clone(), 2)])).unwrap();
+    let result = gathered.bag_add(&bag, 1, 0).err().unwrap();
     assert_eq!(result.to_string(), "the amount is 0, and must be 1 to 4294967295");
-    assert_eq!(gathered.len(), 4);
-    agent.play(|step| step.push_prepared(&gathered)).unwrap();
-    gathered.clear().remove(&s, 1).unwrap().bag_remove(&b, true, 1).unwrap();
-    agent.play(|step| step.extend_prepared(&gathered)).unwrap();
+    let deep = (0..9).fold(Element::List(vec![]), |inner, _| Element::List(vec![inner]));
+    assert!(matches!(gathered.put(&text, deep), Err(Error::Refused(_))));
+    assert!(matches!(gathered.put(&bag, Value::Bag(BTreeMap::from([(list, 0)]))), Err(Error::Refused(_))));
+    assert_eq!(gathered.len(), 2);
     // A move of no instructions is pushed and fired too.
-    assert_eq!(agent.play(|step| step.extend_prepared(gathered.clear())).unwrap().number, Some(MoveNumber::new(3)));
-    agent.follow().unwrap();
+    assert_eq!(agent.play(|step| step.push_prepared(&gathered)).unwrap().number, Some(n(1)));
+    assert_eq!(agent.play(|step| step.extend_prepared(gathered.clear())).unwrap().number, Some(n(2)));
     let mut step = agent.step().unwrap();
     for depth in 1..3 {
         step.push_prepared(&gathered).unwrap();
         step.extend_prepared(&gathered).unwrap();
-        assert_eq!(step.depth(), depth);
+        assert_eq!((step.depth(), gathered.len()), (depth, 0));
     }
-    drop(step);
-    let values = agent.peek(&places).unwrap();
-    let bag = Value::Bag(BTreeMap::from([(true.into(), 2)]));
-    assert_eq!(
-        (values.number, values.values),
-        (MoveNumber::new(3), vec![(-3).into(), Value::Set(BTreeSet::new()), bag, "text".into()])
-    );
 }
 
 #[test]
-fn prepared_moves_put_lists_sets_and_bags() {
-    let list = Element::List(vec![1.into(), Element::List(vec!["a".into()])]);
-    let values = [
-        Value::from(list.clone()),
-        Value::Set(BTreeSet::from([list.clone(), Element::Undef])),
-        Value::Bag(BTreeMap::from([(list.clone(), 2), ("b".into(), u32::MAX)])),
-    ];
-    let storage = open(&[]);
-    let mut agent = storage.agent(0).unwrap();
-    let at = Prepared::new(&count()).unwrap();
-    let mut gathered = PreparedMove::new();
-    for value in &values {
-        gathered.clear().put(&at, value.clone()).unwrap();
-        let mut step = agent.step().unwrap();
-        step.push_prepared(&gathered).unwrap();
-        assert_eq!(step.get(&at).unwrap(), *value);
-    }
-    let mut step = agent.step().unwrap();
-    step.push_prepared(gathered.bag_add(&at, list.clone(), 1).unwrap()).unwrap_err();
-    step.push_prepared(gathered.clear().put(&at, values[1].clone()).unwrap()).unwrap();
-    step.push_prepared(gathered.clear().remove(&at, list.clone()).unwrap().add(&at, vec![]).unwrap()).unwrap();
-    let left = BTreeSet::from([Element::Undef, Element::List(vec![])]);
-    assert_eq!(step.get(&at).unwrap(), Value::Set(left));
-    let deep = (0..9).fold(Element::List(vec![]), |inner, _| Element::List(vec![inner]));
-    assert!(matches!(gathered.put(&at, deep), Err(Error::Refused(_))));
-    assert!(matches!(gathered.put(&at, Value::Bag(BTreeMap::from([(list, 0)]))), Err(Error::Refused(_))));
-    assert_eq!(gathered.len(), 2);
-}
-
-#[test]
-fn a_popped_move_is_pushed_elsewhere() {
-    let storage = open(&[(count(), 1.into())]);
-    let (mut one, mut other) = (storage.agent(0).unwrap(), storage.agent(1).unwrap());
-    let at = Prepared::new(&count()).unwrap();
-    let mut step = one.step().unwrap();
-    assert_eq!(step.pop_move().err(), Some(Error::NoMove));
-    step.push(&Move::new().put(count(), 5)).unwrap();
-    step.push(&Move::new().inc(count(), 1)).unwrap();
-    step.extend(&Move::new().inc(count(), 2)).unwrap();
-    let mut popped = step.pop_move().unwrap();
-    assert_eq!((popped.len(), step.depth(), step.get(count()).unwrap()), (1, 1, Value::from(5)));
-    step.push_prepared(popped.inc(&at, 10).unwrap()).unwrap();
-    assert_eq!((popped.len(), step.get(count()).unwrap()), (2, Value::from(18)));
-    step.commit().unwrap();
-    other.play(|step| step.extend_prepared(&popped)).unwrap();
-    other.follow().unwrap();
-    assert_eq!(other.peek_at(&at).unwrap(), (n(2), Value::from(31)));
-    let mut step = one.step().unwrap();
-    step.put(count(), Value::Set(BTreeSet::new())).unwrap();
-    let adds = |from: i64| (from..from + 3000).fold(Move::new(), |adds, i| adds.add(count(), i));
-    step.push(&adds(0)).unwrap();
-    step.extend(&adds(3000)).unwrap();
-    assert_eq!((step.pop_move().err(), step.depth()), (Some(Error::Many(Limit::Instructions)), 2));
-}
-
-#[test]
-fn seen_locations_are_not_named_and_an_offer_lists_the_named() {
+fn an_offer_is_fired() {
     let other_place = Location::new("other").arg(true);
     let storage = open(&[(count(), 1.into())]);
     let (mut one, mut other) = (storage.agent(0).unwrap(), storage.agent(1).unwrap());
     let mut step = one.step().unwrap();
-    assert_eq!(step.offer().unwrap(), (Move::new(), vec![]));
     step.push(&Move::new().inc(count(), 2)).unwrap();
     assert_eq!(step.see(&[count(), other_place.clone()]).unwrap(), [3.into(), Value::Undef]);
-    assert!(step.see(&[Location::new("1")]).is_err());
     step.get(&other_place).unwrap();
     let (instructions, reads) = step.offer().unwrap();
     assert_eq!((&instructions, &reads), (&Move::new().inc(count(), 2), &vec![(other_place.clone(), n(0))]));
-    other.play(|step| step.put(count(), 10)).unwrap();
-    assert_eq!(step.commit(), Ok(n(2)));
-    assert_eq!(one.fire(&instructions, &reads), Ok(n(3)));
+    drop(step);
+    assert_eq!(one.fire(&instructions, &reads), Ok(n(1)));
     other.play(|step| step.put(&other_place, 1)).unwrap();
     assert_eq!(one.fire(&instructions, &reads), Err(stale(other_place)));
 }
 
 #[test]
-fn reads_and_fires_by_name_work_without_steps() {
+fn numbers_beyond_32_bits_and_other_storages_are_refused() {
     let storage = open(&[(count(), 1.into())]);
-    let (mut one, mut other) = (storage.agent(0).unwrap(), storage.agent(1).unwrap());
-    let reading = one.read(&[count()]).unwrap();
-    assert_eq!((reading.number, &reading.values[..]), (n(0), &[Value::from(1)][..]));
-    assert_eq!(other.fire(&Move::new().put(count(), 2), &[]), Ok(n(1)));
-    assert_eq!(one.stands(&[(count(), n(0))]), Err(stale(count())));
+    let mut one = storage.agent(0).unwrap();
     assert!(matches!(one.stands(&[(count(), n(1 << 32))]), Err(Error::Range(_))));
-    assert_eq!(one.fire(&Move::new().inc(count(), 1), &[(count(), n(0))]), Err(stale(count())));
-    assert!(matches!(one.fire(&Move::new().inc(count(), 1), &[(count(), n(9))]), Err(Error::Range(_))));
-    assert_eq!(one.fire(&Move::new().inc(count(), 1), &[(count(), n(1))]), Ok(n(2)));
-    other.learn(&mut one).unwrap();
-    assert_eq!(other.seen(), 2);
+    assert!(matches!(one.fire_over(&Move::new(), &[], &[("count", n(1 << 32))]), Err(Error::Range(_))));
+    assert_eq!(one.fire_over(&Move::new(), &[], &[("f", n(0)); 257]), Err(Error::Many(Limit::Places(Some(257)))));
     let elsewhere = open(&[]);
     assert_eq!(elsewhere.agent(0).unwrap().learn(&mut one), Err(Error::OtherStorage));
 }

@@ -3,8 +3,7 @@ mod common;
 
 use common::Draw;
 use folugben::{
-    Agent, Element, Error, Journal, JournalError, Legality, Limit, Location, Move, MoveNumber, Prepared, Storage,
-    Value, aggregate, compose,
+    Agent, Element, Error, Journal, JournalError, Legality, Limit, Location, Move, MoveNumber, Prepared, Storage, Value,
 };
 use std::cell::RefCell;
 use std::collections::{BTreeMap, BTreeSet};
@@ -37,43 +36,11 @@ fn dropped_agents_are_returned_also_by_a_panic() {
 }
 
 #[test]
-fn moves_of_an_abandoned_agent_are_missing() {
-    let storage = Storage::open([], 10).unwrap();
-    let mut agent = storage.agent(0).unwrap();
-    agent.play(|step| step.put(count(), 1)).unwrap();
-    agent.abandon();
-    assert_eq!(storage.close(), Err(Error::Missing(n(1))));
-    let mut unused = storage.agent(1).unwrap();
-    unused.follow().unwrap();
-    unused.abandon();
-    assert_eq!(storage.moves(), 1);
-}
-
-#[test]
 fn an_agent_of_another_storage_is_handed_back() {
     let (one, other) = (Storage::open([], 10).unwrap(), Storage::open([], 10).unwrap());
     let agent = one.agent(0).unwrap();
     let agent = other.give(agent).unwrap_err();
     assert!(one.give(agent).is_ok());
-}
-
-#[test]
-fn a_closed_storage_continues() {
-    let storage = Storage::open([(count(), 1.into())], 2).unwrap();
-    let mut agent = storage.agent(0).unwrap();
-    assert_eq!(storage.next(5).err(), Some(Error::NoJournal));
-    for _ in 0..2 {
-        agent.play(|step| step.inc(count(), 1)).unwrap();
-    }
-    assert_eq!(agent.play(|step| step.inc(count(), 1)), Err(Error::Full));
-    drop(agent);
-    let first = storage.close().unwrap();
-    let next = storage.next(5).unwrap();
-    let mut agent = next.agent(0).unwrap();
-    assert_eq!(agent.read(&[count()]).unwrap().values, [Value::from(3)]);
-    drop(agent);
-    assert_eq!(first.replay().unwrap(), [(count(), 3.into())]);
-    assert!(next.close().unwrap().check().unwrap().is_legal());
 }
 
 #[test]
@@ -126,59 +93,6 @@ fn journals_are_judged() {
     assert_eq!(with("\"version\":2", "\"version\":7").check(), Err(JournalError::Version));
     assert_eq!(Journal::from(text[..text.len() - 1].to_vec()).check(), Err(JournalError::Cut));
     assert_eq!(Journal::from(b"{\n".to_vec()).replay(), Err(JournalError::NotJson(1)));
-}
-
-#[test]
-fn moves_are_composed_and_aggregated_without_a_storage() {
-    let one = Move::new().put(count(), 1);
-    let other = Move::new().inc(count(), 2);
-    assert_eq!(compose(&one, &other).unwrap(), Move::new().put(count(), 3));
-    assert_eq!(aggregate(&[(count(), 5.into())], &other).unwrap(), [(count(), 7.into())]);
-    assert!(matches!(aggregate(&[], &other), Err(Error::Clash { at, .. }) if at == count()));
-    assert!(matches!(compose(&one, &Move::new().add(count(), 1)), Err(Error::Clash { .. })));
-    assert!(matches!(compose(&Move::new().put("no name", 1), &other), Err(Error::Refused(_))));
-}
-
-#[test]
-fn a_storage_continues_from_an_agent_at_its_full_end() {
-    let storage = Storage::open([(count(), 1.into())], 2).unwrap();
-    let (mut one, other) = (storage.agent(0).unwrap(), storage.agent(1).unwrap());
-    for number in 1..=2 {
-        assert_eq!(one.go_on(5).err(), Some(Error::NotFull));
-        assert_eq!(one.play(|step| step.inc(count(), 1)).unwrap().number, Some(n(number)));
-    }
-    assert_eq!(one.go_on(5).err(), Some(Error::NotFull));
-    assert_eq!(one.follow(), Ok(n(2)));
-    assert_eq!(other.go_on(5).err(), Some(Error::NotFull));
-    assert!(matches!(one.go_on(0), Err(Error::Range(_))));
-    let next = one.go_on(5).unwrap();
-    let mut agent = next.agent(0).unwrap();
-    assert_eq!(agent.read(&[count()]).unwrap().values, [Value::from(3)]);
-    assert_eq!(agent.play(|step| step.inc(count(), 1)).unwrap().number, Some(n(1)));
-    assert_eq!((one.seen(), storage.moves(), next.moves()), (n(2), 2, 1));
-}
-
-#[test]
-fn a_returned_agent_is_checked_out_and_continues() {
-    let storage = Storage::open([], 10).unwrap();
-    assert_eq!(storage.take(3).err(), Some(Error::NotGiven(3.into())));
-    let mut agent = storage.agent(3).unwrap();
-    assert_eq!(storage.take(3).err(), Some(Error::NotGiven(3.into())));
-    agent.play(|step| step.put(count(), 1)).unwrap();
-    drop(agent);
-    storage.close().unwrap();
-    let mut agent = storage.take(3).unwrap();
-    assert_eq!((agent.number().get(), agent.won()), (3, 1));
-    assert_eq!(storage.next(5).err(), Some(Error::NoJournal));
-    assert_eq!(storage.close().err(), Some(Error::Missing(n(1))));
-    agent.play(|step| step.inc(count(), 1)).unwrap();
-    assert_eq!(storage.agent(3).err(), Some(Error::NumberTaken(3.into())));
-    drop(agent);
-    let journal = storage.close().unwrap();
-    assert_eq!(journal.check(), Ok(Legality::Legal { calls: 2, moves: 2 }));
-    let taken = storage.take(3).unwrap();
-    assert!(storage.give(taken).is_ok());
-    assert_eq!(storage.close().unwrap(), journal);
 }
 
 #[test]

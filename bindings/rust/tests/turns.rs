@@ -114,19 +114,6 @@ fn an_open_step_keeps_its_state() {
     assert_eq!(raise(&mut one), 5);
 }
 
-#[test]
-fn a_number_that_only_another_agent_has_seen_is_refused() {
-    let storage = storage(10);
-    let (mut one, mut other) = (storage.agent(0).unwrap(), storage.agent(1).unwrap());
-    raise(&mut one);
-    one.read(&[count()]).unwrap();
-    let put = folugben::Move::new().put("x", 1);
-    assert!(matches!(other.fire(&put, &[(count(), 1.into())]), Err(Error::Range(_))));
-    assert!(matches!(other.stands(&[(count(), 1.into())]), Err(Error::Range(_))));
-    assert!(matches!(other.fire_over(&put, &[], &[("count", 1.into())]), Err(Error::Range(_))));
-    assert_eq!((other.seen(), storage.moves()), (0.into(), 1));
-}
-
 /// Agents that several threads hand one another, and play by turns those that each has.
 fn hand_round(agents: Vec<Agent>, rounds: u64, drop_some: bool) -> u64 {
     let pool = Mutex::new(agents);

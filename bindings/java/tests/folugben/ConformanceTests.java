@@ -8,6 +8,10 @@ import java.util.ArrayList;
 import java.util.HashMap;
 import java.util.List;
 import java.util.Map;
+import java.util.function.Function;
+import java.util.regex.Pattern;
+import java.util.stream.Collectors;
+import java.util.stream.IntStream;
 
 /**
  * The table of calls and answers that every package returns: bindings/conformance says what its
@@ -20,6 +24,8 @@ final class ConformanceTests {
     private Storage storage;
     private final Map<String, Agent> agents = new HashMap<>();
     private final Map<String, Step> steps = new HashMap<>();
+    /** The moves that are gathered, or were popped. */
+    private final Map<String, Move> moves = new HashMap<>();
     private String journal;
 
     private ConformanceTests(boolean isRecording) {
@@ -49,6 +55,15 @@ final class ConformanceTests {
         return items;
     }
 
+    private static final Pattern EACH = Pattern.compile("\\{\"each\":(\\d+),\"of\":([^{}]*)\\}");
+
+    /** The line with the items that each {"each":COUNT,"of":ITEM} stands for. */
+    private static String expanded(String line) {
+        return EACH.matcher(line).replaceAll(each -> IntStream.range(0, Integer.parseInt(each.group(1)))
+                .mapToObj(at -> each.group(2).replace("\"#\"", "" + at))
+                .collect(Collectors.joining(",")));
+    }
+
     private static String string(String json) {
         return Value.parse(json).asText();
     }
@@ -60,8 +75,10 @@ final class ConformanceTests {
     private void begin() {
         steps.values().forEach(Step::close);
         agents.values().forEach(Agent::close);
+        moves.values().forEach(Move::close);
         steps.clear();
         agents.clear();
+        moves.clear();
         read.clear();
         if (storage != null)
             storage.close();
@@ -87,7 +104,7 @@ final class ConformanceTests {
 
     /** The codes of the arguments that Java refuses by itself. */
     private static final Map<String, String> CODES =
-            Map.of("open", "CAPACITY", "next", "CAPACITY", "agent", "AGENTS");
+            Map.of("open", "CAPACITY", "next", "CAPACITY", "go_on", "CAPACITY", "agent", "AGENTS");
 
     private static String refused(FolugbenException error) {
         List<String> numbers = new ArrayList<>();
@@ -111,6 +128,11 @@ final class ConformanceTests {
                 read.clear();
                 yield "null";
             }
+            case "go_on" -> {
+                storage = agents.get(own).goOn(Integer.parseInt(words.get(1)));
+                read.clear();
+                yield "null";
+            }
             case "agent", "take" -> {
                 int number = Integer.parseInt(own);
                 agents.put(own, name.equals("take") ? storage.take(number) : storage.agent(number));
@@ -122,17 +144,34 @@ final class ConformanceTests {
                 yield "null";
             }
             case "journal" -> checked(journal, recorded(journal));
+            case "lines" -> "[" + String.join(",", journal.lines().skip(1).toList()) + "]";
+            case "gather", "unite", "drop" -> nothing(() -> gather(name, move(own), words.subList(1, words.size())));
             case "check" -> checked(string(own), 0);
             case "replay" -> Storage.replay(string(own));
             case "aggregate" -> Moves.aggregate(own, words.get(1));
             case "compose" -> Moves.compose(own, words.get(1));
             case "audit" -> audited(string(own));
             case "explain" -> quoted(Storage.explain(Storage.Form.valueOf(string(own)), string(words.get(1))));
-            case "begin", "end", "get", "see", "get_all", "push", "extend", "pop", "depth", "offer", "commit" ->
-                    ofStep(name, own, words.subList(1, words.size()));
+            case "begin", "end", "get", "get_at", "see", "get_all", "has", "count_of", "size", "push", "push_move", "extend",
+                    "extend_move", "pop", "pop_move", "depth", "offer", "commit" -> ofStep(name, own, words.subList(1, words.size()));
             case "read" -> read(own, agents.get(own), words.get(1));
             default -> ofAgent(name, agents.get(own), words.subList(1, words.size()));
         };
+    }
+
+    private Move move(String number) {
+        return moves.computeIfAbsent(number, it -> new Move());
+    }
+
+    private void gather(String name, Move move, List<String> words) {
+        if (name.equals("drop"))
+            move.clear();
+        else if (name.equals("unite"))
+            move.unite(move(words.get(0)));
+        else
+            for (String instruction : items(words.get(0)))
+                if (!instruction.isEmpty())
+                    move.gather(Instruction.parse(instruction));
     }
 
     private static String checked(String journal, int recorded) {
@@ -174,7 +213,14 @@ final class ConformanceTests {
         return switch (name) {
             case "get" -> values(step.get(words.get(0)));
             case "see" -> values(step.see(words.get(0)));
+            case "get_at" -> atPrepared(words.get(0), at -> step.get(at).json());
+            case "push_move" -> nothing(() -> step.push(move(words.get(0))));
+            case "extend_move" -> nothing(() -> step.extend(move(words.get(0))));
+            case "pop_move" -> nothing(() -> step.popMove(move(words.get(0))));
             case "get_all" -> step.scan(string(words.get(0))).pairs();
+            case "has" -> "" + step.has(Location.parse(words.get(0)), (Element) Value.parse(words.get(1)));
+            case "count_of" -> "" + step.countOf(Location.parse(words.get(0)), (Element) Value.parse(words.get(1)));
+            case "size" -> "" + step.size(Location.parse(words.get(0)));
             case "push" -> nothing(() -> step.push(words.get(0)));
             case "extend" -> nothing(() -> step.extend(words.get(0)));
             case "pop" -> nothing(step::pop);
@@ -183,6 +229,16 @@ final class ConformanceTests {
             case "commit" -> "{\"fired\":" + step.commit() + "}";
             default -> nothing(step::close);
         };
+    }
+
+    private static String atPrepared(String location, Function<PreparedLocation, String> call) {
+        try (PreparedLocation at = new PreparedLocation(location)) {
+            return call.apply(at);
+        }
+    }
+
+    private static String peeked(Agent.Peeked peeked) {
+        return "{\"number\":" + peeked.number() + ",\"values\":[" + peeked.value().json() + "]}";
     }
 
     /** The values of a reading {"number":N,"values":[..]}. */
@@ -199,6 +255,9 @@ final class ConformanceTests {
     private String ofAgent(String name, Agent agent, List<String> words) {
         return switch (name) {
             case "give" -> nothing(agent::give);
+            case "abandon" -> nothing(agent::abandon);
+            case "answer" -> agent.answer();
+            case "peek_at" -> atPrepared(words.get(0), at -> peeked(agent.peek(at)));
             case "learn" -> nothing(() -> agent.learn(agents.get(words.get(0))));
             case "peek" -> agent.peek(words.get(0));
             case "fire" -> "{\"fired\":" + agent.fire(words.get(0), words.get(1), words.get(2)) + "}";
@@ -242,24 +301,36 @@ final class ConformanceTests {
         ConformanceTests replayer = new ConformanceTests(isRecording);
         int number = 0;
         int count = 0;
+        int times = 1;
         for (String line : Files.readAllLines(table)) {
             number++;
-            List<String> all = items(line);
+            List<String> all = items(expanded(line));
             String name = string(all.get(0));
-            if (name.equals("case")) {
+            if (name.equals("repeat"))
+                times = Integer.parseInt(all.get(1));
+            else if (name.equals("case"))
                 replayer.begin();
-                continue;
+            // The journal of agents that record has their reads too.
+            else if (!name.equals("lines") || !isRecording) {
+                for (; times > 0; times--) {
+                    String fault = replayer.fault(name, all);
+                    if (fault != null)
+                        throw new IllegalStateException(table.getFileName() + ":" + number + ": " + fault);
+                }
+                times = 1;
+                count++;
             }
-            boolean isEnd = name.equals("end");
-            String answer = replayer.answer(name, all.subList(1, all.size() - (isEnd ? 0 : 1)));
-            String wanted = isEnd ? "null" : all.get(all.size() - 1);
-            if (!agree(answer, wanted))
-                throw new IllegalStateException(table.getFileName() + ":" + number + ": found " + answer
-                        + ", wanted " + wanted);
-            count++;
         }
         replayer.begin();
         return count;
+    }
+
+    /** What is wrong with the answer to the call of a line, or null. */
+    private String fault(String name, List<String> all) {
+        boolean isEnd = name.equals("end");
+        String answer = answer(name, all.subList(1, all.size() - (isEnd ? 0 : 1)));
+        String wanted = isEnd ? "null" : all.get(all.size() - 1);
+        return agree(answer, wanted) ? null : "found " + answer + ", wanted " + wanted;
     }
 
     static void all() {
@@ -268,7 +339,7 @@ final class ConformanceTests {
             System.out.println("left out: the table of calls (no -Dfolugben.root=FOLDER)");
             return;
         }
-        for (String name : List.of("moves", "calls", "steps", "journals"))
+        for (String name : List.of("moves", "calls", "polls", "steps", "gathered", "commits", "journals"))
             try {
                 for (boolean isRecording : new boolean[] {false, true}) {
                     Path table = Path.of(root, "bindings/conformance", name + ".jsonl");

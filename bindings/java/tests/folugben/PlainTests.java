@@ -161,37 +161,68 @@ final class PlainTests {
         return answer != null;
     }
 
+    /** Counts of elements and sizes, of sets, bags and nothing, through pushed moves. */
+    static void members() {
+        Location b = Location.of("b");
+        Map<Location, Value> state = Map.of(S, Value.set(1, "a", List.of(true)), X, Element.of(7),
+                b, Value.bag(Map.of()));
+        try (Storage storage = Storage.open(state, 8); Agent agent = storage.agent(0);
+                Step step = agent.step(); PreparedLocation s = S.prepare();
+                PreparedLocation x = X.prepare()) {
+            for (Object it : List.of(1, "a", List.of(true))) {
+                Element element = Element.of(it);
+                equal(step.has(S, element) && step.has(s, element), true);
+                equal(step.countOf(S, element), 1L);
+            }
+            for (Object it : List.of(2, "", false, List.of()))
+                equal(step.has(s, Element.of(it)), false);
+            equal(step.has(s, Element.undef()), false);
+            equal(List.of(step.size(S), step.size(s), step.size(b)), List.of(3L, 3L, 0L));
+            step.push(Instruction.remove(S, 1), Instruction.bagAdd(b, "a", 2),
+                    Instruction.bagAdd(b, 5, 4294967295L));
+            equal(step.has(s, Element.of(1)), false);
+            equal(List.of(step.countOf(b, Element.of("a")), step.countOf(b, Element.of(5))),
+                    List.of(2L, 4294967295L));
+            equal(List.of(step.size(s), step.size(b)), List.of(2L, 4294967297L));
+            equal(step.offer().reads().stream().map(Named::location).toList(), List.of(b, S));
+            thrown(IllegalStateException.class, "no set or bag: 7",
+                    () -> step.has(x, Element.of(1)));
+            thrown(IllegalStateException.class, "no set or bag: 7", () -> step.size(X));
+            equal(step.offer().reads().stream().map(Named::location).toList(), List.of(b, S, X));
+            thrown(NullPointerException.class, "element", () -> step.has(s, null));
+            equal(step.commit(), 1L);
+            refused(Code.EMPTY, () -> step.has(s, Element.of(1)));
+            refused(Code.EMPTY, () -> step.size(s));
+        }
+        try (Storage storage = Storage.open(state, 8); Agent agent = storage.agent(0);
+                Step step = agent.step(); PreparedLocation s = S.prepare()) {
+            for (int i = 0; i < 256; i++) step.size(Location.of("w", i));
+            refused(Code.MANY, () -> step.size(s));
+            refused(Code.MANY, () -> step.has(s, Element.of(1)));
+            agent.fire(List.of(), List.of());
+            agent.follow();
+            refused(Code.MOVED, () -> step.has(s, Element.of(1)));
+            refused(Code.MOVED, () -> step.size(s));
+        }
+    }
+
     static void limits() {
-        try (Storage storage = Storage.open(Map.of(X, 1), 8); Agent agent = storage.agent(0);
-                Step step = agent.step(); PreparedLocation x = X.prepare();
-                Move move = new Move()) {
+        try (PreparedLocation x = X.prepare(); Move move = new Move()) {
             for (int i = 0; i < 4096; i++) move.put(x, 1);
             refused(Code.LONG_MOVE, () -> move.put(x, 1));
             refused(Code.LONG_MOVE, () -> move.put(x, "1"));
             equal(move.size(), 4096);
-            step.push(move);
-            move.clear().inc(x, Long.MAX_VALUE);
-            equal(refused(Code.CLASH, () -> step.extend(move)).answer(),
-                    "{\"clash\":[[\"x\"],\"Large\"]}");
             equal(move.clear().size(), 0);
-            for (int i = 1; i < 64; i++) step.push(move);
-            equal(step.depth(), 64);
-            refused(Code.DEEP, () -> step.push(move));
-            step.extend(move);
-            move.put(x, 7);
-            refused(Code.DEEP, () -> step.push(move));
-            step.extend(move);
-            equal(step.getLong(x), 7L);
-            for (int i = 1; i <= 256; i++)
+        }
+        try (Storage storage = Storage.open(Map.of(X, 1), 8); Agent agent = storage.agent(0);
+                Step step = agent.step()) {
+            for (int i = 0; i < 256; i++)
                 try (PreparedLocation w = Location.of("w", i).prepare()) {
                     equal(step.get(w).isUndef(), true);
                 }
-            try (PreparedLocation w = Location.of("w", 0).prepare()) {
-                refused(Code.MANY, () -> step.get(w));
-                refused(Code.MANY, () -> step.getLong(w));
-                equal(agent.peek(w).value().isUndef(), true);
+            try (PreparedLocation x = X.prepare()) {
+                refused(Code.MANY, () -> step.getLong(x));
             }
-            equal(step.tryCommit().move(), 1);
         }
     }
 
@@ -221,65 +252,26 @@ final class PlainTests {
         thrown(NullPointerException.class, "location", () -> new PreparedLocation(null));
     }
 
-    /** A move that is popped, which is pushed again, here and in another step. */
+    /** A move that is popped counts as one instruction, and takes the place of those before it. */
     static void popped() {
-        try (Storage storage = Storage.open(Map.of(X, 1, S, Value.set()), 8);
-                Agent agent = storage.agent(0); PreparedLocation x = X.prepare();
+        try (Storage storage = Storage.open(Map.of(X, 1), 8); Agent agent = storage.agent(0);
+                Step step = agent.step(); PreparedLocation x = X.prepare();
                 Move move = new Move()) {
-            try (Step step = agent.step()) {
-                popAndPushAgain(step, move, x);
+            step.push(Instruction.inc(X, 3));
+            step.extend(Instruction.inc(X, 4));
+            equal(step.popMove(move.put(x, "dropped")), move);
+            equal(move.size(), 1);
+            step.push(move.inc(x, 10));
+            equal(move.size(), 2);
+            try (Move last = step.popMove()) {
+                step.extend(last);
+                equal(step.getLong(x), 18L);
             }
-            try (Step step = agent.step()) {
-                pushInAnotherStep(step, move, x);
-            }
-        }
-    }
-
-    private static void popAndPushAgain(Step step, Move move, PreparedLocation x) {
-        refused(Code.NO_PUSH, step::popMove);
-        step.push(Instruction.put(X, 2));
-        step.push(Instruction.inc(X, 3), Instruction.add(S, Element.list(1)));
-        step.extend(Instruction.inc(X, 4), Instruction.add(S, "two"));
-        equal(step.popMove(move.put(x, "dropped")), move);
-        equal(step.depth(), 1);
-        equal(move.size(), 1);
-        equal(step.get(List.of(X, S)), List.of(Element.of(2), Value.set()));
-        step.push(move.inc(x, 10));
-        equal(move.size(), 2);
-        equal(step.get(List.of(X, S)),
-                List.of(Element.of(19), Value.set(Element.list(1), "two")));
-        try (Move last = step.popMove()) {
-            step.extend(last);
+            Move closed = new Move();
+            closed.close();
+            refused(Code.EMPTY, () -> step.popMove(closed));
             equal(step.depth(), 1);
-            equal(step.getLong(x), 19L);
-            step.extend(last.clear().put(x, Value.bag(Map.of("e", 2))));
-            equal(step.get(x), Value.bag(Map.of("e", 2)));
         }
-        equal(step.commit(), 1);
-        refused(Code.EMPTY, step::popMove);
-    }
-
-    private static void pushInAnotherStep(Step step, Move move, PreparedLocation x) {
-        refused(Code.CLASH, () -> step.push(move));
-        step.push(Instruction.put(S, Value.set()), Instruction.put(X, 1));
-        for (int half = 0; half < 2; half++) {
-            Instruction[] adds = new Instruction[3000];
-            for (int i = 0; i < 3000; i++) adds[i] = Instruction.add(S, 3000 * half + i);
-            if (half == 0)
-                step.push(adds);
-            else
-                step.extend(adds);
-        }
-        refused(Code.LONG_MOVE, () -> step.popMove(move));
-        equal(step.depth(), 2);
-        equal(move.size(), 2);
-        step.pop();
-        step.push(move);
-        equal(step.getLong(x), 18L);
-        Move closed = new Move();
-        closed.close();
-        refused(Code.EMPTY, () -> step.popMove(closed));
-        equal(step.depth(), 2);
     }
 
     /** Handles that are closed, or whose step or agent is over. */
@@ -393,6 +385,8 @@ final class PlainTests {
         System.out.println("plain values");
         moves();
         System.out.println("gathered moves");
+        members();
+        System.out.println("members");
         limits();
         System.out.println("plain limits");
         operands();

@@ -318,10 +318,11 @@ final class SharedTests {
                 onSqlite();
             if (Server.isAvailable())
                 onServer();
+            System.out.println("shared runs" + (isAvailable("org.sqlite.JDBC") ? ", SQLite" : "")
+                    + (Server.isAvailable() ? ", PostgreSQL" : ""));
         } catch (Exception fault) {
             throw fault instanceof RuntimeException error ? error : new IllegalStateException(fault);
         }
-        System.out.println("shared runs");
     }
 
     static boolean isAvailable(String driver) {

@@ -33,32 +33,18 @@ final class StepTests {
     static void readings() {
         try (Storage storage = new Storage(INIT, 8); Agent agent = storage.agent(0);
                 Agent rival = storage.agent(1)) {
-            rival.tryFire(inc("x", 1), "[]");
-            equal(agent.peek("[[\"x\"],[\"z\"]]"), seen(0, "7,null"));
             equal(agent.state(), new Agent.State(0, INIT));
-            equal(agent.seen(), 0);
-            equal(agent.follow(), 1);
-            equal(agent.peek("[[\"x\"]]"), seen(1, "8"));
-            equal(agent.scan("x"), new Agent.State(1, "[[[\"x\"],8]]"));
-            equal(agent.scan("y"), new Agent.State(1, "[[[\"y\",1],\"one\"]]"));
-            equal(agent.scan(""), new Agent.State(1, "[]"));
-            equal(agent.stands("[[[\"x\"],1]]"), new Agent.Reply(Code.DONE, 0, 0, 0, null));
-            equal(agent.stands("[[[\"x\"],1]]").isFired(), false);
-            rival.tryFire(put("z", "1"), "[]");
-            Agent.Reply stale = agent.stands("[[[\"z\"],1],[[\"x\"],0]]");
+            equal(agent.scan("y"), new Agent.State(0, "[[[\"y\",1],\"one\"]]"));
+            equal(agent.stands("[[[\"x\"],0]]"), new Agent.Reply(Code.DONE, 0, 0, 0, null));
+            equal(agent.stands("[[[\"x\"],0]]").isFired(), false);
+            rival.tryFire(inc("x", 1), "[]");
+            Agent.Reply stale = agent.stands("[[[\"z\"],0],[[\"x\"],0]]");
             equal(stale, new Agent.Reply(Code.STALE, 0, 0, 0, "{\"stale\":[\"x\"]}"));
             equal(stale.isStale() && stale.shouldRetry(), true);
-            equal(agent.state().number(), 2);
-            refused(Code.NO_ANSWER, agent::answer);
             refusedAt(Code.NOT_JSON, 0, " at byte 2", () -> agent.peek("[nul]"));
             refusedAt(Code.NOT_JSON, 0, " at byte 2", () -> agent.stands("[nul]"));
-            refused(Code.SHAPE, () -> agent.stands("[[\"x\"]]"));
-            refused(Code.SHAPE, () -> agent.peek("7"));
             agent.give();
-            refused(Code.EMPTY, agent::follow);
-            refused(Code.EMPTY, agent::state);
             refused(Code.EMPTY, agent::step);
-            refused(Code.EMPTY, () -> agent.scan("x"));
         }
     }
 
@@ -146,24 +132,10 @@ final class StepTests {
     static void steps() {
         try (Storage storage = new Storage(INIT, 8); Agent agent = storage.agent(0)) {
             Step step = agent.step();
-            equal(step.number(), 0);
-            equal(step.get("[[\"x\"]]"), seen(0, "7"));
+            equal(step.scan("y"), new Agent.State(0, "[[[\"y\",1],\"one\"]]"));
             step.push(put("x", "10"));
-            step.extend(inc("x", 5));
-            equal(step.depth(), 1);
-            step.push("[[\"put\",[\"y\",2],\"two\"],[\"add\",[\"s\"],2]]");
-            equal(step.scan("y"),
-                    new Agent.State(0, "[[[\"y\",1],\"one\"],[[\"y\",2],\"two\"]]"));
-            equal(step.get("[[\"x\"],[\"s\"]]"), seen(0, "15,{\"set\":[1,2]}"));
-            step.push(put("x", "0"));
-            step.pop();
-            equal(step.depth(), 2);
             equal(step.tryCommit(), new Agent.Reply(Code.DONE, 1, 0, 0, null, true));
-            equal(agent.answer(), "{\"fired\":1}");
-            equal(step.depth(), 0);
             refused(Code.EMPTY, step::commit);
-            refused(Code.EMPTY, step::pop);
-            refused(Code.EMPTY, () -> step.get("[]"));
             step.close();
             step.close();
             try (Step abandoned = agent.step()) {
@@ -171,11 +143,7 @@ final class StepTests {
                 abandoned.push(put("x", "1"));
             }
             agent.give();
-            String journal = storage.closeJournal();
-            equal(Storage.check(journal), new Storage.Checked(1, 1));
-            // What the step put itself isn't named, nor what a scan alone returned.
-            String named = "[[\"s\"],0],[[\"x\"],0]";
-            equal(journal.endsWith("\"reads\":[" + named + "]},\"reply\":{\"fired\":1}}\n"), true);
+            equal(Storage.check(storage.closeJournal()), new Storage.Checked(1, 1));
         }
     }
 
@@ -200,7 +168,6 @@ final class StepTests {
         String nested = "[[\"add\",[\"s\"],1],[\"put\",[\"s\"],{\"set\":[{\"set\":[]}]}]]";
         try (Storage storage = new Storage(INIT, 8); Agent agent = storage.agent(0);
                 Step step = agent.step()) {
-            refused(Code.NO_PUSH, step::pop);
             objection(step, Code.CLASH, clash, () -> step.push(inc("s", 1)));
             step.push(inc("x", 1));
             objection(step, Code.CLASH, clash, () -> step.push(inc("s", 1)));
@@ -210,27 +177,8 @@ final class StepTests {
             refusedAt(Code.NOT_JSON, 0, " at byte 3", () -> step.extend("[[nul]]"));
             refused(Code.NOT_JSON, () -> step.push("[],\"reads\":[]"));
             refused(Code.NOT_JSON, () -> step.get("[["));
-            refused(Code.SHAPE, () -> step.get("[7]"));
             for (int i = 1; i < 64; i++) step.push(inc("x", 1));
             equal(refused(Code.DEEP, () -> step.push("[]")).answer() == null, true);
-            for (int i = 0; i < 1000; i++) step.extend(inc("x", 1));
-            equal(step.get("[[\"x\"]]"), seen(0, "1071"));
-            equal(step.depth(), 64);
-            StringBuilder many = new StringBuilder("[[\"w\",0]");
-            for (int i = 1; i < 256; i++) many.append(",[\"w\"," + i + "]");
-            refused(Code.MANY, () -> step.get(many + "]"));
-            try (Step another = agent.step()) {
-                another.get(many + "]");
-                another.push(inc("x", 1));
-                another.push(inc("x", 1));
-                refused(Code.MANY, another::commit);
-                refused(Code.MANY, () -> another.pop());
-            }
-            try (Step another = agent.step()) {
-                another.get(many + "]");
-                another.push(inc("x", 1));
-                equal(another.tryCommit().move(), 1);
-            }
         }
     }
 
@@ -241,17 +189,12 @@ final class StepTests {
         try (Storage storage = new Storage(INIT, 8); Agent agent = storage.agent(0);
                 Agent rival = storage.agent(1)) {
             try (Step step = agent.step()) {
-                equal(step.offerText(), "{\"fire\":[],\"reads\":[]}");
                 step.push(inc("x", 3));
-                equal(step.see("[[\"x\"],[\"z\"]]"), seen(0, "10,null"));
                 equal(step.see(List.of(y, x)), List.of(Element.of("one"), Element.of(10)));
                 equal(step.see(y), Element.of("one"));
                 equal(step.get(Location.of("z")).isUndef(), true);
                 List<Named> reads = List.of(new Named(Location.of("z"), 0));
                 equal(step.offer(), new Step.Offer(List.of(Instruction.inc(x, 3)), reads));
-                equal(step.offerText(),
-                        "{\"fire\":[[\"inc\",[\"x\"],3]],\"reads\":[[[\"z\"],0]]}");
-                refused(Code.SHAPE, () -> step.see("[7]"));
                 refused(Code.NOT_JSON, () -> step.see("[["));
                 rival.tryFire(put("x", "20"), "[]");
                 equal(step.commit(), 2);
@@ -272,49 +215,25 @@ final class StepTests {
 
     /** What rivals fire makes a step stale, or has its agent move on. */
     static void rivals() {
-        try (Storage storage = new Storage(INIT, 4); Agent agent = storage.agent(0);
+        try (Storage storage = new Storage(INIT, 2); Agent agent = storage.agent(0);
                 Agent rival = storage.agent(1)) {
             Step step = agent.step();
-            step.push(inc("x", 1));
+            equal(step.get("[[\"x\"]]"), seen(0, "7"));
             rival.tryFire(put("x", "70"), "[]");
-            equal(step.get("[[\"x\"]]"), seen(0, "8"));
             equal(step.tryCommit(), new Agent.Reply(Code.STALE, 0, 0, 0,
                                        "{\"stale\":[\"x\"]}", true));
-            equal(step.depth(), 1);
-            refused(Code.MOVED, () -> step.get("[]"));
-            refused(Code.MOVED, () -> step.push("[]"));
-            refused(Code.MOVED, () -> step.scan("x"));
             step.close();
-            try (Step other = agent.step()) {
-                equal(other.number(), 1);
-                rival.tryFire(put("z", "1"), "[]");
-                other.push(inc("x", 1));
-                agent.follow();
-                refused(Code.MOVED, () -> other.extend("[]"));
-                equal(other.tryCommit().move(), 3);
-            }
             try (Step last = agent.step()) {
                 last.push(inc("x", 1));
                 rival.tryFire("[]", "[]");
                 equal(last.tryCommit(), new Agent.Reply(Code.FULL, 0, 0, 0, null, true));
-                equal(last.depth(), 1);
             }
         }
     }
 
-    /** What one move alone adds depends on nothing, and clashes if it doesn't fit any more. */
+    /** What a reply says of a clash at a commit, and of one at a fire. */
     static void movesWithoutReads() {
         String one = "[[\"bagremove\",[\"b\"],1,1]]";
-        try (Storage storage = new Storage("[[[\"b\"],{\"bag\":[[1,2]]}],[[\"x\"],7]]", 8);
-                Agent agent = storage.agent(0); Agent rival = storage.agent(1);
-                Step first = agent.step(); Step second = rival.step()) {
-            for (Step step : new Step[] {first, second}) {
-                step.push(one);
-                step.push(inc("x", 1));
-            }
-            equal(first.tryCommit().move(), 1);
-            equal(second.tryCommit().move(), 2);
-        }
         try (Storage storage = new Storage("[[[\"b\"],{\"bag\":[[1,1]]}]]", 8);
                 Agent agent = storage.agent(0); Agent rival = storage.agent(1);
                 Step step = agent.step()) {
@@ -327,14 +246,9 @@ final class StepTests {
             equal(clash.isClash() && clash.shouldRetry(), true);
             equal(refused(Code.CLASH, clash::orThrow).answer(), clash.answer());
             equal(step.tryCommit().move(), 0);
-            equal(step.depth(), 1);
-            refused(Code.MOVED, () -> step.get("[]"));
             // Of a move that is fired alone its caller decides.
             Agent.Reply alone = agent.tryFire(one, "[]");
             equal(alone.isClash() && !alone.shouldRetry(), true);
-            try (Step again = agent.step()) {
-                refused(Code.CLASH, () -> again.push(one));
-            }
         }
     }
 
@@ -343,50 +257,17 @@ final class StepTests {
         Code range = Code.AHEAD;
         String seen = " is named at 1, and the agent has seen 0";
         String reads = "[[[\"s\"],0], [[\"y\",1],1]]";
-        try (Storage storage = new Storage(INIT, 8); Agent agent = storage.agent(0);
-                Agent rival = storage.agent(1)) {
-            for (int round = 0; round < 2; round++) {
-                String message = ": read 2: [\"y\",1]" + seen;
-                refusedAt(range, 0, message, () -> agent.tryFire("[]", reads));
-                refusedAt(range, 0, message, () -> agent.stands(reads));
-                List<Named> named = List.of(new Named(Location.of("x"), 1));
-                message = ": read 1: [\"x\"]" + seen;
-                refusedAt(range, 0, message, () -> agent.tryFire(List.of(), named));
-                refusedAt(range, 0, message, () -> agent.stands(named));
-                rival.tryFire("[]", "[]");
-            }
-            equal(agent.seen(), 0);
-            equal(agent.misses(), 0L);
+        try (Storage storage = new Storage(INIT, 8); Agent agent = storage.agent(0)) {
+            String message = ": read 2: [\"y\",1]" + seen;
+            refusedAt(range, 0, message, () -> agent.tryFire("[]", reads));
+            refusedAt(range, 0, message, () -> agent.stands(reads));
+            List<Named> named = List.of(new Named(Location.of("x"), 1));
+            message = ": read 1: [\"x\"]" + seen;
+            refusedAt(range, 0, message, () -> agent.tryFire(List.of(), named));
+            refusedAt(range, 0, message, () -> agent.stands(named));
             refusedAt(range, 0,
                     ": read 1: [\"x\"] is named at 4294967295, and the agent has seen 0",
                     () -> agent.stands("[[[\"x\"],4294967295]]"));
-            agent.learn(rival);
-            equal(agent.stands(reads).isStale(), false);
-            equal(agent.tryFire("[]", reads).move(), 3);
-        }
-    }
-
-    /** A number that was kept from the storage before is none of the next one's. */
-    static void numbersOfTheStorageBefore() {
-        Location x = Location.of("x");
-        Storage storage = new Storage(INIT, 8);
-        Reading reading;
-        try (Agent agent = storage.agent(0)) {
-            agent.tryFire(inc("x", 1), "[]");
-            reading = agent.read(List.of(x));
-            agent.give();
-        }
-        storage.closeJournal();
-        List<Instruction> raised = List.of(Instruction.put(x, reading.value(x).asLong() + 1));
-        try (Storage next = storage.next(8); Agent agent = next.agent(0);
-                Agent rival = next.agent(1)) {
-            storage.close();
-            rival.tryFire(inc("x", 1), "[]");
-            // Nothing was written above this number, so that the rival's update would be lost.
-            refusedAt(Code.AHEAD, 0,
-                    ": read 1: [\"x\"] is named at 1, and the agent has seen 0",
-                    () -> agent.tryFire(raised, reading.named()));
-            equal(agent.read(List.of(x)).value(x).asLong(), 9L);
         }
     }
 
@@ -417,25 +298,18 @@ final class StepTests {
                 () -> Moves.aggregate("[]", TWICE));
     }
 
-    /** A run goes on in a storage that opens with the state after the one before. */
+    /** A storage that continues from another one needs it no more. */
     static void storagesContinue() {
         Storage storage = new Storage(INIT, 1);
-        refused(Code.NO_JOURNAL, () -> storage.next(1));
         try (Agent agent = storage.agent(0)) {
-            agent.tryFire(inc("x", 1), "[]");
             agent.give();
         }
-        String left = Storage.replay(storage.closeJournal());
+        storage.closeJournal();
         outOfRange(() -> storage.next(0));
         try (Storage next = storage.next(1); Agent agent = next.agent(0)) {
             storage.close();
             refused(Code.EMPTY, () -> storage.next(1));
-            equal(agent.state(), new Agent.State(0, left));
-            equal(agent.tryFire(inc("x", 1), "[]").move(), 1);
-            agent.give();
-            String journal = next.closeJournal();
-            equal(Storage.check(journal), new Storage.Checked(1, 1));
-            equal(Storage.replay(journal), left.replace("[[\"x\"],8]", "[[\"x\"],9]"));
+            equal(agent.state(), new Agent.State(0, INIT));
         }
     }
 
@@ -512,8 +386,6 @@ final class StepTests {
         System.out.println("resting on nothing");
         numbersToCome();
         System.out.println("numbers to come");
-        numbersOfTheStorageBefore();
-        System.out.println("numbers of the storage before");
         moves();
         System.out.println("moves");
         storagesContinue();

@@ -1,10 +1,13 @@
 package folugben;
 
 import static folugben.Test.Checks.equal;
+import static folugben.Test.Checks.refused;
 
 import java.io.IOException;
+import java.io.UncheckedIOException;
 import java.nio.ByteBuffer;
 import java.nio.charset.StandardCharsets;
+import java.nio.file.AccessDeniedException;
 import java.nio.file.FileSystemException;
 import java.nio.file.Files;
 import java.nio.file.Path;
@@ -13,10 +16,13 @@ import java.sql.Connection;
 import java.sql.DriverManager;
 import java.sql.PreparedStatement;
 import java.sql.Statement;
+import java.util.ArrayList;
+import java.util.Arrays;
 import java.util.List;
 import java.util.Map;
 import java.util.concurrent.Callable;
 import java.util.stream.Stream;
+import java.util.zip.Deflater;
 
 /** Tests of what strangers' files can do: nothing is written, waited for, believed or filled. */
 final class StrangersTests {
@@ -111,6 +117,94 @@ final class StrangersTests {
         }
     }
 
+    /** What is beside a file is a regular one of its owner. */
+    private static void filesBeside(Path room) throws Exception {
+        String target = shared(room, "beside.db");
+        Path log = Path.of(target + "-wal");
+        List<Callable<?>> calls = List.of(() -> SharedRun.audit(target), () -> SharedRun.join(target));
+        Files.createSymbolicLink(log, room.resolve("precious"));
+        for (Callable<?> call : calls) isDamaged(call);
+        Files.delete(log);
+        if (!isRoot())
+            return;
+        Files.createFile(log);
+        giveAway(log);
+        for (Callable<?> call : calls) isDamaged(call);
+        Files.delete(log);
+        equal(SharedRun.audit(target).moves(), 5L);
+    }
+
+    private static boolean isRoot() {
+        return System.getProperty("user.name").equals("root");
+    }
+
+    private static void giveAway(Path path) throws Exception {
+        OtherProcess.run(List.of("chown", "65534:65534", "" + path));
+    }
+
+    /** A piece takes no more memory than it may have, and a statement no more time and rows. */
+    private static void costs(Path room) throws Exception {
+        String target = shared(room, "bomb.db");
+        Deflater deflater = new Deflater();
+        deflater.setInput(new byte[1 << 27]);
+        deflater.finish();
+        byte[] packed = new byte[1 << 18];
+        int length = deflater.deflate(packed);
+        equal(deflater.finished(), true);
+        deflater.end();
+        alter(target, "update piece set data = ? where segment = 1", (Object) Arrays.copyOf(packed, length));
+        List<String> words = new ArrayList<>(OtherProcess.words("folugben.StrangersTests"));
+        words.addAll(1, List.of("-Xmx64m", "-XX:+ExitOnOutOfMemoryError"));
+        words.add(target);
+        Process audit = new ProcessBuilder(words).redirectErrorStream(true).start();
+        String output = new String(audit.getInputStream().readAllBytes(), StandardCharsets.UTF_8);
+        equal(output, "segment 1: its piece 0 is missing or isn't the one that was saved\n");
+        String rows = "with recursive n(x) as (select 1 union all select x + 1 from n) select ";
+        long was = SqliteReader.seconds;
+        SqliteReader.seconds = 1;
+        Database reader = Database.connectToRead(target);
+        try {
+            isDamaged(() -> reader.run(rows + "count(*) from n"));
+            isDamaged(() -> reader.run(rows + "x from n"));
+            isDamaged(() -> reader.run(rows + "hex(zeroblob(40000)) from n limit 1000"));
+            equal(SharedTests.faultOf(() -> {
+                try {
+                    return reader.run("update run set joined = 0");
+                } catch (IOException fault) {
+                    throw new UncheckedIOException(fault);
+                }
+            }) instanceof AccessDeniedException, true);
+        } finally {
+            SqliteReader.seconds = was;
+            reader.close();
+        }
+    }
+
+    /** A run is written in no folder of another user, and other names in it are no segments. */
+    private static void folders(Path room) throws Exception {
+        Path folder = room.resolve("folder");
+        try (Run run = Run.open(INIT, folder); RunAgent agent = run.agent(0)) {
+            SharedTests.raise(agent);
+        }
+        String name = "printf x >\"$0/$(printf '\\377\\376$1')\"";
+        OtherProcess.run(List.of("sh", "-c", name.replace("$1", ""), "" + folder));
+        Files.createFile(folder.resolve("notes"));
+        equal(Auditor.audit(folder).moves(), 1L);
+        OtherProcess.run(List.of("sh", "-c", name.replace("$1", ".journal"), "" + folder));
+        isDamaged(() -> Auditor.audit(folder));
+        isDamaged(() -> Run.resume(folder));
+        OtherProcess.run(List.of("sh", "-c", "rm \"$0/$(printf '\\377\\376.journal')\"", "" + folder));
+        if (!isRoot())
+            return;
+        giveAway(folder);
+        equal(SharedTests.faultOf(() -> Run.resume(folder)) instanceof AccessDeniedException, true);
+        Path empty = Files.createDirectory(room.resolve("empty"));
+        giveAway(empty);
+        equal(SharedTests.faultOf(() -> Run.open(INIT, empty)) instanceof AccessDeniedException, true);
+        equal(names(empty), List.of());
+        equal(Auditor.audit(folder).moves(), 1L);
+    }
+
     private static void pipes(Path room) throws Exception {
         Path pipe = room.resolve("pipe");
         OtherProcess.run(List.of("mkfifo", "" + pipe));
@@ -184,10 +278,72 @@ final class StrangersTests {
                     run.agent(1).close();
                 }
             }
-            all.execute("create function locked.f() returns trigger language plpgsql as 'begin return new; end';"
-                    + " create trigger t before update on locked.run for each row execute function locked.f()");
-            equal(SharedTests.faultOf(() -> SharedRun.audit(base + "#locked")).getMessage().contains("a trigger of run"), true);
+            rightsOfOthers(all, base + "#locked");
+            waitsAndNames(all, base);
         }
+    }
+
+    /** What would run something of another role is refused. */
+    private static void rightsOfOthers(Statement all, String target) throws Exception {
+        all.execute("create function public.f() returns trigger language plpgsql as 'begin return new; end'");
+        String[][] rights = {
+                {"create trigger t before update on locked.run for each row execute function public.f()",
+                        "drop trigger t on locked.run", "a trigger of run"},
+                {"create rule r as on update to locked.run do nothing", "drop rule r on locked.run", "a rule of run"},
+                {"alter table locked.call alter scans set default now()",
+                        "alter table locked.call alter scans drop default", "the default scans"},
+                {"create table heir() inherits(locked.call)", "drop table heir", "a heir of call"},
+                {"create table key(place bigint references locked.call)", "drop table key", "a foreign key to call"},
+                {"alter table locked.run add constraint c check (moves > 0)",
+                        "alter table locked.run drop constraint c", "a check of run"},
+                {"grant trigger on locked.run to public", "revoke trigger on locked.run from public", "a right on run"},
+                {"grant references on locked.call to public", "revoke references on locked.call from public",
+                        "a right on call"},
+                {"grant references (place) on locked.call to public",
+                        "revoke references (place) on locked.call from public", "a right on place"},
+                {"grant create on schema locked to public", "revoke create on schema locked from public",
+                        "a right to create in the schema"}};
+        for (String[] it : rights) {
+            all.execute(it[0]);
+            for (Callable<?> call : List.<Callable<?>>of(() -> SharedRun.audit(target), () -> SharedRun.join(target)))
+                equal(SharedTests.faultOf(call).getMessage().contains(it[2]), true);
+            all.execute(it[1]);
+        }
+        equal(SharedRun.audit(target).moves(), 1L);
+    }
+
+    /** Waits for a lock end, an audit writes nothing, two roles share a run, and no text has a password. */
+    private static void waitsAndNames(Statement all, String base) throws Exception {
+        String target = base + "#locked";
+        Database reader = Database.connectToRead(target);
+        try {
+            reader.run("update locked.run set joined = 0");
+            throw new IllegalStateException("an audit writes");
+        } catch (AccessDeniedException fault) {
+            equal(fault.getMessage().contains("read-only"), true);
+            equal(reader.run("select current_setting('search_path')").get(0)[0], "pg_catalog, pg_temp");
+        } finally {
+            reader.close();
+        }
+        int was = Postgres.patience;
+        Postgres.patience = 300;
+        all.execute("begin; lock table locked.run in exclusive mode");
+        try {
+            equal(SharedTests.faultOf(() -> SharedRun.join(target)).getMessage().contains("holds a lock of the run"), true);
+        } finally {
+            Postgres.patience = was;
+            all.execute("rollback");
+        }
+        String theirs = base.replace("folugben@", "mallory:hunter2@") + "#theirs";
+        try (SharedRun run = SharedRun.open(INIT, theirs); SharedAgent agent = run.agent(0);
+                SharedRun other = SharedRun.join(base.replace("folugben@", "folugben:hunter2@") + "?owner=mallory#theirs")) {
+            equal((run + "" + other).contains("hunter2"), false);
+            equal(Thread.getAllStackTraces().keySet().toString().contains("hunter2"), false);
+            refused(Code.NUMBER, () -> other.agent(0));
+            equal(SharedTests.raise(agent).move(), 1L);
+        }
+        Throwable missing = SharedTests.faultOf(() -> SharedRun.join(base.replace("folugben@", "folugben:hunter2@") + "#none"));
+        equal(("" + missing).contains("hunter2"), false);
     }
 
     static void all() {
@@ -195,12 +351,15 @@ final class StrangersTests {
             Path room = Files.createTempDirectory("strangers").toRealPath();
             try {
                 pipes(room);
+                folders(room);
                 outputs(room);
                 names();
                 if (SharedTests.isAvailable("org.sqlite.JDBC")) {
                     rollbackJournals(room);
                     readingLeavesNothing(room);
                     otherTablesAndRows(room);
+                    filesBeside(room);
+                    costs(room);
                 }
             } finally {
                 RunTests.drop(room);
@@ -211,7 +370,16 @@ final class StrangersTests {
         System.out.println("strangers' files");
     }
 
+    /** Without a word it runs the tests; otherwise it audits the run that the word names. */
     public static void main(String[] words) {
-        all();
+        if (words.length == 0) {
+            all();
+            return;
+        }
+        try {
+            System.out.println(SharedRun.audit(words[0]));
+        } catch (DamagedException fault) {
+            System.out.println(fault.getMessage());
+        }
     }
 }

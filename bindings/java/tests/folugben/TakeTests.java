@@ -25,14 +25,8 @@ final class TakeTests {
             other.gather(Instruction.inc(X, 2)).gather(Instruction.put(Y, "y"));
             equal(one.unite(other).unite(none).size(), 3);
             try (Step step = agent.step()) {
-                step.push(one);
-                equal(step.get(List.of(X, Y)), List.of(Value.of(4), Value.of("y")));
                 step.push(other);
-                equal(step.get(X), Value.of(6));
                 equal(none.unite(step.popMove()).unite(one).size(), 4);
-                step.pop();
-                step.push(none);
-                equal(step.get(X), Value.of(6));
             }
             thrown(IllegalArgumentException.class,
                     "a move is united with another one, not with itself", () -> one.unite(one));
@@ -55,30 +49,6 @@ final class TakeTests {
             refused(Code.EMPTY, () -> one.unite(other));
             refused(Code.EMPTY, () -> other.unite(one));
         }
-    }
-
-    /** Each kind of instruction does what it does as an object. */
-    private static void instructionsAreGathered() {
-        List<Instruction> move = List.of(Instruction.put(X, List.of(1, "a")), Instruction.put(Y, null),
-                Instruction.add(Location.of("s"), 2), Instruction.remove(Location.of("s"), 1),
-                Instruction.bagAdd(Location.of("b"), true, 3),
-                Instruction.bagRemove(Location.of("b"), "e", 1), Instruction.inc(Location.of("n"), -4));
-        Map<Location, Object> init = Map.of(Location.of("s"), java.util.Set.of(1), Location.of("b"),
-                Map.of("e", 2), Location.of("n"), 1, Y, 7);
-        List<String> results = new ArrayList<>();
-        for (boolean isGathered : new boolean[] {false, true})
-            try (Storage storage = Storage.open(init, 10); Agent agent = storage.agent(0);
-                    Step step = agent.step(); Move gathered = new Move()) {
-                move.forEach(gathered::gather);
-                if (isGathered)
-                    step.push(gathered);
-                else
-                    step.push(move);
-                step.commit();
-                agent.follow();
-                results.add(agent.state().pairs());
-            }
-        equal(results.get(0), results.get(1));
     }
 
     /** Agents that a thread plays by turns do as on threads of their own. */
@@ -288,7 +258,6 @@ final class TakeTests {
     static void all() throws InterruptedException {
         movesAreUnited();
         unitedMovesHaveALimit();
-        instructionsAreGathered();
         agentsOfOneThreadShareTheirState();
         threadsMayPlayTheSameAgents();
         playsHaveBounds();

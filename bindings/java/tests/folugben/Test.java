@@ -19,29 +19,6 @@ import java.util.List;
 public final class Test {
     private Test() {}
 
-    static void answers() {
-        try (Storage storage = new Storage("[[[\"count\"],0]]", 2); Agent first = storage.agent(0);
-                Agent second = storage.agent(1)) {
-            equal(first.read("[[\"count\"]]"), "{\"number\":0,\"values\":[0]}");
-            equal(first.tryFire("[[\"put\",[\"count\"],1]]", "[[[\"count\"],0]]"),
-                    new Agent.Reply(Code.DONE, 1, 0, 0, null));
-            equal(first.answer(), "{\"fired\":1}");
-            Agent.Reply stale = second.tryFire("[[\"put\",[\"count\"],9]]", "[[[\"count\"],0]]");
-            equal(stale.shouldRetry(), true);
-            equal(stale.answer(), "{\"stale\":[\"count\"]}");
-            equal(second.answer(), stale.answer());
-            Agent.Reply clash = second.tryFire("[[\"put\",[\"x\"],1],[\"put\",[\"x\"],2]]", "[]");
-            equal(clash.code(), Code.CLASH);
-            equal(clash.answer(), "{\"clash\":[[\"x\"],\"Two\"]}");
-            equal(second.answer(), clash.answer());
-            equal(second.tryFire("[]", "[]").move(), 2);
-            equal(second.tryFire("[]", "[]").code(), Code.FULL);
-            equal(second.answer(), "\"full\"");
-            first.learn(second);
-            equal(first.seen(), 2);
-        }
-    }
-
     static void codes() {
         Storage storage = new Storage("[]", 8);
         Storage other = new Storage("[]", 8);
@@ -49,17 +26,12 @@ public final class Test {
         Agent stranger = other.agent(1);
         outOfRange(() -> new Storage("[]", 0));
         refused(Code.NOT_JSON, () -> new Storage("[", 1));
-        refused(Code.SHAPE, () -> new Storage("7", 1));
         outOfRange(() -> storage.agent(256));
-        refused(Code.NO_ANSWER, agent::answer);
-        refused(Code.SHAPE, () -> agent.read("[7]"));
         refused(Code.OTHER, () -> storage.give(stranger));
         refused(Code.OTHER, () -> agent.learn(stranger));
         refused(Code.EMPTY, () -> agent.learn(agent));
         agent.tryFire("[]", "[]");
         agent.give();
-        refused(Code.EMPTY, () -> agent.read("[]"));
-        refused(Code.NUMBER, () -> storage.agent(0));
         storage.agent(7).close();
         refused(Code.NUMBER, () -> storage.agent(7));
         String journal = storage.closeJournal();
@@ -212,8 +184,6 @@ public final class Test {
     public static void main(String[] arguments) throws InterruptedException {
         // Before Lines is loaded: lines of runs end at 16 MiB here, and not at 1 GiB.
         System.setProperty("folugben.line", "16777216");
-        answers();
-        System.out.println("answers");
         codes();
         System.out.println("codes");
         abandonedAgents();
