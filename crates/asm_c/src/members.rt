@@ -8,12 +8,12 @@ use asm_slots::members::{count_of, size as size_at};
 use asm_slots::{Slot, answer};
 use std::alloc::Global;
 
-/// Return how often the set or the bag at a prepared location has an element, as it is seen through the pushed moves.
-/// The element is given by its kind, its number and its bytes, as to `asm_instruct`. `count` is 0 or 1 of a set, the
-/// count of a bag, and 0 where nothing is. The value isn't copied. The location is tracked as by `asm_get_at`, also with
-/// `ASM_SHAPE` for its value. The call doesn't poll and adds no receipt, and the slots of the agent and the location are
-/// unchanged. On any other error, the step's slot is unchanged too, and on each error `count` is 0. The step must be one
-/// of the agent's storage.
+/// Return how often the set or the bag at a prepared location has an element.
+/// The value is what `asm_get_at` returns, and isn't copied. The element is given by its kind, its number and its bytes,
+/// as to `asm_instruct`. `count` is 0 or 1 of a set, the count of a bag, and 0 where nothing is. The location is tracked
+/// as by `asm_get_at`, also if its value is refused with `ASM_SHAPE`. The call doesn't poll and adds no receipt, and the
+/// slots of the agent and the location are unchanged. On any other error, the step's slot is unchanged too. On each error
+/// `count` is 0. The step must be one of the agent's storage.
 ///
 /// # Errors
 /// - `ASM_SHAPE`: the location has another value than a set, a bag and undef, and is tracked; or the bytes of a text
@@ -45,11 +45,12 @@ pub extern "C" fn asm_count_of(
     answer(count_of(alloc, agent, step, at, kind, number, bytes, count))
 }
 
-/// Return how many elements the set or the bag at a prepared location has, as it is seen through the pushed moves.
-/// Each element of a bag counts as often as it is there; `size` is at most 18,446,744,073,709,551,615, and 0 where
-/// nothing is. The value isn't copied. The location is tracked as by `asm_get_at`, also with `ASM_SHAPE`. The call
-/// doesn't poll and adds no receipt, and the slots of the agent and the location are unchanged. On any other error, the
-/// step's slot is unchanged too, and on each error `size` is 0. The step must be one of the agent's storage.
+/// Return how many elements the set or the bag at a prepared location has.
+/// The value is what `asm_get_at` returns, and isn't copied. Each element of a bag counts as often as it is there. `size`
+/// is at most 18,446,744,073,709,551,615, and 0 where nothing is. The location is tracked as by `asm_get_at`, also with
+/// `ASM_SHAPE`. The call doesn't poll and adds no receipt, and the slots of the agent and the location are unchanged. On
+/// any other error, the step's slot is unchanged too. On each error `size` is 0. The step must be one of the agent's
+/// storage.
 ///
 /// # Errors
 /// - `ASM_SHAPE`: the location has another value than a set, a bag and undef, and is tracked.

@@ -32,7 +32,7 @@ fn reports(objection: &Objection, reply: &Reply) -> bool
 
 /// Return whether this is the reply to a move without an objection.
 ///
-/// The move comes after so many others.
+/// `number` moves were fired before it.
 fn is_fired_or_full(capacity: u32, number: u32, reply: &Reply) -> bool
     ensures { IsTrue result ↔ (reply.now ≡ fired_or_full capacity number) }
 {
@@ -45,7 +45,7 @@ fn is_fired_or_full(capacity: u32, number: u32, reply: &Reply) -> bool
 
 /// Return whether this is the reply to a move with this objection or with none.
 ///
-/// The move comes after so many others.
+/// `number` moves were fired before it.
 fn is_reply(objection: &Option<Objection>, capacity: u32, number: u32, reply: &Reply) -> bool
     ensures { IsTrue result ↔ (reply.now ≡ judged_reply capacity number objection.now) }
 {

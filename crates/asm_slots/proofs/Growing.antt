@@ -14,7 +14,7 @@ use Rattle.asm_slots.specs.Slots.{HoldBoth, HoldsStep}
 use Rattle.asm_slots.specs.Standard.{Standard, meaning}
 use Rattle.asm_slots.specs.StepAnswers.{DoesNotGrow, Grows}
 use Rattle.asm_slots.specs.StepCalls.{HasGrown, HasReached, IsGrown, IsNotGrown, IsPushError, grown}
-use Rattle.asm_slots.specs.WrittenText.{IsUnwritten}
+use Rattle.asm_slots.specs.WrittenText.{WritesNothing}
 use Rattle.asm_slots.specs.declared.codes.Code.{Code}
 use Rattle.asm_slots.specs.declared.content.Content.{Content}
 use Rattle.asm_slots.specs.declared.content.Content.TheVariants as content
@@ -70,7 +70,7 @@ never_deep (Err e) deep = λ is. deep
 pub grown_of : (way : PushMode) (bytes : List ℕ) (M : Move) (agent step after : Option Content) (a : AgentAt Standard)
     (s t : TransactionView) (out out_after : List ℕ) (n : ℕ) (r : Result (Unit {0}) Code) → agent ≡ Some (content.Agent a) →
     step ≡ Some (content.Step s) → after ≡ Some (content.Step t) → ReadAsMove bytes M → OnOk r (IsGrown way M a s t) →
-    OnOk r (IsUnwritten out out_after n) → IfErr r (IsNotGrown way M a s t out out_after n) →
+    OnOk r (WritesNothing out out_after n) → IfErr r (IsNotGrown way M a s t out out_after n) →
     MatchResult r (λ done. Grows way bytes agent step after out out_after n) (DoesNotGrow way bytes agent step after out out_after n)
 grown_of way bytes M agent step after a s t out out_after n (Ok u) e f g reads grown unwritten none =
     (hold_three agent step after a s t (HasGrown way bytes) e f g (M, reads, grown), unwritten)

@@ -4,7 +4,7 @@ use Rattle.asm_explain.specs.Forms.{IsOfForm, IsOfNoForm}
 use Rattle.asm_explain.specs.declared.explaining.Form.{Form}
 use Rattle.asm_explain.specs.declared.explaining.Form.TheVariants as form
 use Rattle.asm_slots.specs.Answers.{IsMemory}
-use Rattle.asm_slots.specs.WrittenText.{HasNoText, HasText, IsUnwritten}
+use Rattle.asm_slots.specs.WrittenText.{HasNoText, HasText, WritesNothing}
 use Rattle.asm_slots.specs.declared.codes.Code.{Code}
 use Rattle.asm_slots.specs.declared.codes.Code.TheVariants as code
 
@@ -55,7 +55,7 @@ IsSentence form bytes text = LacksForm form bytes × (text ≢ [])
 -- the bytes are of the form, and nothing is written; or a sentence is
 abbrev pub Explains : ℤ → List ℕ → List ℕ → List ℕ → ℕ → Type 0
 Explains form bytes out after written =
-    (HasForm form bytes × IsUnwritten out after written) ⊎ HasText (IsSentence form bytes) out after written
+    (HasForm form bytes × WritesNothing out after written) ⊎ HasText (IsSentence form bytes) out after written
 
 -- there is no such form, or the sentence is too long
 abbrev pub DoesNotExplain : ℤ → List ℕ → List ℕ → List ℕ → ℕ → Code → Type 0

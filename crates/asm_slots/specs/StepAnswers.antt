@@ -12,7 +12,7 @@ use Rattle.asm_slots.specs.Slots.{ChangesStep, HoldBoth, Holds, HoldsLocation, H
 use Rattle.asm_slots.specs.Slots.{HoldsStep, LacksOne}
 use Rattle.asm_slots.specs.Standard.{Standard}
 use Rattle.asm_slots.specs.StepCalls.{Errs, HasGrown, IsBytesSeen, IsGrown, IsNotGrown, IsValueSeen}
-use Rattle.asm_slots.specs.WrittenText.{HasNoText, HasText, IsUnwritten}
+use Rattle.asm_slots.specs.WrittenText.{HasNoText, HasText, WritesNothing}
 use Rattle.asm_slots.specs.declared.codes.Code.{Code}
 use Rattle.asm_slots.specs.declared.codes.Code.TheVariants as code
 use Rattle.asm_slots.specs.declared.content.Content.{Content}
@@ -65,21 +65,21 @@ DoesNotGetAt at agent step =
 -- the move of these bytes is pushed, or extends the one that was pushed last; only the step changes
 abbrev pub Grows : PushMode → List ℕ → Option Content → Option Content → Option Content → List ℕ → List ℕ → ℕ → Type 0
 Grows way bytes agent step after out out_after written =
-    HoldBoth agent step (λ a s. HoldsStep after (HasGrown way bytes a s)) × IsUnwritten out out_after written
+    HoldBoth agent step (λ a s. HoldsStep after (HasGrown way bytes a s)) × WritesNothing out out_after written
 
 -- a slot lacks its agent or its step, or the bytes are no move, and nothing changes; or the move isn't accepted
 abbrev pub DoesNotGrow : PushMode → List ℕ → Option Content → Option Content → Option Content → List ℕ → List ℕ → ℕ → Code → Type 0
 DoesNotGrow way bytes agent step after out out_after written c =
-    ((after ≡ step) × IsUnwritten out out_after written × EmptyOr (LacksOne agent step) (IsUnreadAs IsMoveForm bytes) c)
+    ((after ≡ step) × WritesNothing out out_after written × EmptyOr (LacksOne agent step) (IsUnreadAs IsMoveForm bytes) c)
     ⊎ HoldBoth agent step (λ a s. HoldsStep after (λ t. (M : Move) × ReadAsMove bytes M × IsNotGrown way M a s t out out_after written c))
 
 -- the same, of the move that a slot holds
 abbrev pub GrowsBy : PushMode → Option Content → Option Content → Option Content → Option Content → List ℕ → List ℕ → ℕ → Type 0
 GrowsBy way move agent step after out out_after written =
-    HoldsMove move (λ M. HoldBoth agent step (λ a s. HoldsStep after (IsGrown way M a s))) × IsUnwritten out out_after written
+    HoldsMove move (λ M. HoldBoth agent step (λ a s. HoldsStep after (IsGrown way M a s))) × WritesNothing out out_after written
 
 -- a slot lacks what the call needs, and nothing changes; or the move isn't accepted
 abbrev pub DoesNotGrowBy : PushMode → Option Content → Option Content → Option Content → Option Content → List ℕ → List ℕ → ℕ → Code → Type 0
 DoesNotGrowBy way move agent step after out out_after written c =
-    ((after ≡ step) × IsUnwritten out out_after written × (c ≡ code.Empty) × (HoldsNoMove move ⊎ LacksOne agent step))
+    ((after ≡ step) × WritesNothing out out_after written × (c ≡ code.Empty) × (HoldsNoMove move ⊎ LacksOne agent step))
     ⊎ HoldsMove move (λ M. HoldBoth agent step (λ a s. HoldsStep after (λ t. IsNotGrown way M a s t out out_after written c)))

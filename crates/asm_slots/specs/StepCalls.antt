@@ -23,7 +23,7 @@ use Rattle.asm_slots.specs.Composing.{clash_text, large_text}
 use Rattle.asm_slots.specs.Kinds.{IsValueBy, bytes_of}
 use Rattle.asm_slots.specs.OwnState.{values_text}
 use Rattle.asm_slots.specs.Standard.{Standard, meaning}
-use Rattle.asm_slots.specs.WrittenText.{HasText, IsUnwritten, LacksRoom}
+use Rattle.asm_slots.specs.WrittenText.{HasText, WritesNothing, LacksRoom}
 use Rattle.asm_slots.specs.declared.codes.Code.{Code}
 use Rattle.asm_slots.specs.declared.codes.Code.TheVariants as code
 use Rattle.asm_slots.specs.declared.pushing.PushMode.{PushMode}
@@ -137,4 +137,4 @@ abbrev pub IsNotGrown : PushMode → Move → AgentAt Standard → TransactionVi
 IsNotGrown way M a old new out after written c =
     HasText (IsRefused way M a old new c) out after written
     ⊎ ((after ≡ out) × ((k : Code) × LacksRoom (IsRefused way M a old new k) out written c))
-    ⊎ (IsUnwritten out after written × (new ≡ old) × IsNotAccepted way M a old c)
+    ⊎ (WritesNothing out after written × (new ≡ old) × IsNotAccepted way M a old c)

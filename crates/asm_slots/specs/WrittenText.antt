@@ -18,8 +18,8 @@ abbrev pub HasText : (List ℕ → Type 0) → List ℕ → List ℕ → ℕ →
 HasText IsText out after written = (text : List ℕ) × IsText text × IsCopied text out after written
 
 -- the buffer is unchanged, and no length is reported
-abbrev pub IsUnwritten : List ℕ → List ℕ → ℕ → Type 0
-IsUnwritten out after written = (after ≡ out) × (written ≡ 0)
+abbrev pub WritesNothing : List ℕ → List ℕ → ℕ → Type 0
+WritesNothing out after written = (after ≡ out) × (written ≡ 0)
 
 -- a text of this kind is too long for the buffer
 abbrev pub LacksRoom : (List ℕ → Type 0) → List ℕ → ℕ → Code → Type 0

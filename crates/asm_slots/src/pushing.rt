@@ -5,7 +5,7 @@ ghost use Rattle.std.specs.Prelude.{◌≡◌, string_bytes, IfErr, IfOk, MatchR
 ghost use Rattle.asm_slots.specs.StepAnswers.{DoesNotGrow, DoesNotGrowBy, Grows, GrowsBy};
 ghost use Rattle.asm_slots.specs.Slots.{content_of};
 ghost use Rattle.asm_slots.specs.StepCalls.{Errs, IsGrown, IsNotGrown, IsPushError, ReportsRefusal};
-ghost use Rattle.asm_slots.specs.WrittenText.{IsUnwritten};
+ghost use Rattle.asm_slots.specs.WrittenText.{WritesNothing};
 ghost use Rattle.asm_transaction.specs.Reading.{HasTracked, IsUntracked};
 ghost use Rattle.asm_transaction.specs.Tracked.{refusal_places};
 
@@ -102,7 +102,7 @@ fn grow_by(
 ) -> Result<(), Code>
     requires { written.old ≡ 0 }
     ensures grown { OnOk result (IsGrown way instrs.now agent.now step.old step.new) }
-    ensures unwritten { OnOk result (IsUnwritten out.old out.new written.new) }
+    ensures unwritten { OnOk result (WritesNothing out.old out.new written.new) }
     ensures err { IfErr result (IsNotGrown way instrs.now agent.now step.old step.new out.old out.new written.new) }
 {
     if agent.state().number() != step.number() {

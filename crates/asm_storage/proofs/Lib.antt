@@ -13,3 +13,4 @@ pub mod ProperResults
 pub mod Rounds
 pub mod Run
 pub mod Scanning
+pub mod SureFires

@@ -1,6 +1,11 @@
 -- The part of an agent that is no borrow: what is true of it beside its storage, what it attempts to append, and what
 -- its calls do.
-use Rattle.std.specs.Prelude.{◌≡◌, ℕ, List, ◌+◌, ◌-◌, ◌^◌, ◌<◌, ◌≤◌, length, take, Option, Some, None, Result, Ok, Err, Bool, false, IsOk, IsTrue}
+use Rattle.std.specs.Prelude.{◌≡◌, ℕ, List, ◌+◌, ◌-◌, ◌^◌, ◌<◌, ◌≤◌, length, take, Option, Some, None, Result, Ok, Err, Bool, true, false, nat_le, [], IsOk, IsTrue}
+use Rattle.std.specs.List.{list_all}
+use Rattle.asm_row.specs.Seat.{SeatView}
+use Rattle.asm_element.specs.Place.{Place}
+use Rattle.asm_element.specs.declared.value.Value.{Value}
+use Rattle.asm_aggregate.specs.OnlyPut.{only_put}
 use Rattle.asm_update.specs.Move.{Move}
 use Rattle.asm_state.specs.declared.named.Named.{Named}
 use Rattle.asm_storage.specs.declared.call.Call.TheVariants as call
@@ -24,8 +29,8 @@ use Rattle.asm_storage.specs.Machine.{Machine, reply_to}
 use Rattle.asm_storage.specs.History.{fired_move}
 use Rattle.asm_storage.specs.Agents.{AgentView, IsAgent, moves_seen}
 use Rattle.asm_storage.specs.Calls.{receipt_at, judged_on, IsReplied}
-use Rattle.asm_storage.specs.Scans.{with_found, DependsOn}
-use Rattle.asm_storage.specs.Storage.{AgentAt, StorageView, machine_of, has_seen, has_polled, with_fired, last_poll}
+use Rattle.asm_storage.specs.Scans.{with_found, DependsOn, IsFound, IsNamedOver}
+use Rattle.asm_storage.specs.Storage.{AgentAt, StorageView, machine_of, has_seen, has_polled, with_fired, with_receipt, last_poll}
 
 -- the agent's entry of this move, and the call to fire it with these declared reads
 pub record IsOffering (agent : ℕ) (reads : List Named) (M : Move) (o : Offering) : Type 0 where
@@ -99,6 +104,34 @@ IsJudged m seen reads M (Some r) =
 IsJudged m seen reads M None =
     (answer.Fire (reply.Fired (length seen + 1)) ≡ reply_to m (moves_seen seen) (call.Fire reads M))
     × (length seen < m.capacity)
+
+-- the move is sure to fire, whatever its partial updates mean and whatever the state has: the row has room, there is no
+-- scan, each declared read is as new as all that was seen, and the move is one put
+pub record IsSure (p : SeatView Entry) (reads : List Named) (scans : List Scanned) (M : Move) : Type 0 where
+  pub room : length p.seen < length p.row
+  pub unscanned : scans ≡ []
+  pub fresh : list_all (λ r. nat_le (length p.seen) r.number) reads ≡ true
+  pub put : (location : Place) × (value : Value) × (only_put M ≡ Some (location, value))
+
+-- a fire was judged on all that the agent has seen. It has a reply, which fires nothing, is that of the sequential storage
+-- to the fire that names what was found of the scans too, and has its receipt; or with None it is to fire, there is room,
+-- no scan was overtaken, and the agent has not changed
+abbrev pub IsJudgedOver : {A : Type 0} → (A → Meaning) → StorageView A → AgentPart → AgentPart → List Named →
+    List Scanned → Move → Option Reply → Type 0
+IsJudgedOver meaning s old new reads scans M (Some r) =
+    let m = machine_of meaning s in (named : List Named)
+    × IsNamedOver m (moves_seen old.progress.seen) reads scans named
+    × (answer.Fire r ≡ reply_to m (moves_seen old.progress.seen) (call.Fire named M))
+    × (fired_move (call.Fire named M) (answer.Fire r) ≡ None)
+    × (agent_of s new ≡ with_receipt (agent_of s old)
+    (receipt_at (length old.progress.seen) (call.Fire named M) (answer.Fire r)))
+IsJudgedOver meaning s old new reads scans M None =
+    let m = machine_of meaning s in
+    (answer.Fire (reply.Fired (length old.progress.seen + 1)) ≡
+    reply_to m (moves_seen old.progress.seen) (call.Fire reads M))
+    × (length old.progress.seen < m.capacity)
+    × IsFound m.part m.init (moves_seen old.progress.seen) scans None
+    × (agent_of s new ≡ agent_of s old)
 
 -- one turn of a fire: it was answered, or an attempt was lost, and another entry was seen
 abbrev pub IsTurn : {A : Type 0} → (A → Meaning) → StorageView A → AgentPart → AgentPart → List Named → Move →

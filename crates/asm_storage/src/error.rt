@@ -29,7 +29,7 @@ pub enum FireError {
     #[error("more than 256 named reads")]
     ManyReads,
     /// 64 attempts of the call to append its move were lost.
-    #[error("64 offers were lost")]
+    #[error("64 attempts to append were lost to other agents")]
     Busy {
         /// How many moves the agent had seen at the start of the call.
         from: u32,

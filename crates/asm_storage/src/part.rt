@@ -163,7 +163,7 @@ impl AgentPart {
         Ok(self.progress.seen_len())
     }
 
-    /// Take in what the mark holds, as far unchanged not seen.
+    /// Learn the moves of the mark that come after those already seen.
     pub(crate) fn learn<A: Aggregator + Sync + Drop>(&mut self, storage: &Storage<A>, mark: &Mark)
         requires part { IsPartOf A.meaning storage.now self.old }
         requires mark { mark.now.row ≡ storage.now.row }

@@ -45,7 +45,7 @@ fn all_held(alloc: Global, state: &State, places: &[Location]) -> Result<Vec<Val
 
 /// Return the reply to a move with this objection or with none.
 ///
-/// The move comes after so many others.
+/// `number` moves were fired before it.
 fn reply_of(objection: Option<Objection>, capacity: u32, number: u32) -> Reply
     ensures { result ≡ judged_reply capacity number objection }
 {

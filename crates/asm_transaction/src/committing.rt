@@ -50,8 +50,7 @@ impl Transaction {
         ensures { IfOk result (NamesAll self.now) }
     {
         let dependencies = self.step.dependency_locations(alloc)?;
-        let reads = self.reads_with(alloc, dependencies)?;
-        Items::shared(alloc, reads)
+        self.list_with(alloc, dependencies)
     }
 
     // Return the one move, with all reads that a commit declares.

@@ -128,10 +128,10 @@ impl Transaction {
         Ok(size)
     }
 
-    /// Return how often the set or the bag at the location has the element, as `get` sees it, and track the location.
+    /// Return how often a set or a bag has the element, and track the location.
     ///
-    /// A set has it 0 times or once, undef 0 times, and the answer for any other value is None. The value isn't copied.
-    /// The location is tracked as by `get`. On error, nothing changes.
+    /// The value is what `get` returns, and isn't copied. A set has the element 0 times or once, and undef 0 times. Any
+    /// other value has no count. On error, nothing changes.
     ///
     /// # Errors
     ///
@@ -152,11 +152,11 @@ impl Transaction {
         self.count_of_on::<A>(alloc, agent.state(), at, element)
     }
 
-    /// Return how many elements the set or the bag at the location has, as `get` sees it, and track the location.
+    /// Return how many elements a set or a bag has, and track the location.
     ///
-    /// Each element of a bag counts as often as it is there; at most 18,446,744,073,709,551,615 is returned. Undef has
-    /// none, and the answer for any other value is None. The value isn't copied; a set answers at once, and a bag in time
-    /// that grows with its different elements. The location is tracked as by `get`. On error, nothing changes.
+    /// The value is what `get` returns, and isn't copied. Each element of a bag counts as often as it is there, and undef
+    /// has none. The size is at most 18,446,744,073,709,551,615, and any other value has no size. The time is constant for
+    /// a set, and grows with the different elements of a bag. On error, nothing changes.
     ///
     /// # Errors
     ///

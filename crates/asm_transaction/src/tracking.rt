@@ -11,7 +11,7 @@ ghost use Rattle.asm_transaction.specs.View.{places_of};
 
 use crate::error::TransactionError;
 use crate::transaction::Transaction;
-use asm_element::Location;
+use asm_element::{Items, Location};
 use asm_state::Named;
 use asm_step::Step;
 use asm_storage::READS_LIMIT;
@@ -27,6 +27,16 @@ fn copied(alloc: Global, reads: &[Named]) -> Result<Vec<Named>, AllocError>
         copies.push(read.copy(alloc)?)?;
     }
     Ok(copies)
+}
+
+// Return a list of copies of the declared reads. The list of one read has it in itself, so it takes no memory.
+fn listed(alloc: Global, reads: &[Named]) -> Result<Items<Named>, AllocError>
+    ensures { IfOk result (λ list. list ≡ reads.now) }
+{
+    match reads.split_first() {
+        Some((first, rest)) if rest.is_empty() => Ok(Items::one(first.copy(alloc)?)),
+        _ => Items::shared(alloc, copied(alloc, reads)?),
+    }
 }
 
 // Append copies of the locations of the declared reads.
@@ -112,6 +122,23 @@ impl Transaction {
         }
         let all = each_of(alloc, &self.tracked, locations)?;
         named_at(alloc, all, self.number)
+    }
+
+    // Return the list of a declared read of each tracked location and of each of these.
+    pub(crate) fn list_with(
+        &self,
+        alloc: Global,
+        locations: Vec<Location>,
+    ) -> Result<Items<Named>, AllocError>
+        ensures locations { IfOk result (λ reads. AreEach (self.now.tracked ++ locations.items) (places_of reads)) }
+        ensures numbers { IfOk result (λ reads. All (λ r. r.number ≡ self.now.number) reads) }
+    {
+        if locations.is_empty() {
+            let reads = listed(alloc, &self.tracked)?;
+            return Ok(reads);
+        }
+        let reads = self.reads_with(alloc, locations)?;
+        Items::shared(alloc, reads)
     }
 
     // Return all tracked locations, once these are read too.

@@ -1,5 +1,7 @@
-ghost use Rattle.std.specs.Prelude.{◌≡◌, ◌+◌, ◌<◌, ◌≤◌, ℕ, length, take, IfOk, OnOk, OnErr, Some, None, Ok, IsSome, true, false};
+ghost use Rattle.std.specs.Prelude.{◌≡◌, ◌+◌, ◌<◌, ◌≤◌, ℕ, nat_le, length, take, IfOk, OnOk, OnErr, Some, None, Ok, IsSome, true, false};
 ghost use Rattle.std.specs.Prelude.{IfSome, IfNone};
+ghost use Rattle.std.specs.Bool.{OnTrue};
+ghost use Rattle.std.specs.List.{list_all};
 ghost use mathlib.Core.List.{IsPrefix};
 ghost use Rattle.asm_storage.specs.declared.call.Answer.TheVariants as answer;
 ghost use Rattle.asm_storage.specs.declared.call.Call.TheVariants as call;
@@ -12,7 +14,7 @@ ghost use Rattle.asm_storage.specs.Machine.{reply_to};
 ghost use Rattle.asm_storage.specs.Part.{IsOffering, IsSameOffering, agent_of, offers_in, misses_in};
 ghost use Rattle.asm_storage.specs.Calls.{receipt_at, HasOffered, IsFireOver, MadeOffers, Ran, IsVersionAfter};
 ghost use Rattle.asm_storage.specs.Calls.{is_plain, is_plain_over};
-ghost use Rattle.asm_storage.specs.Part.{HasWon, IsJudged, HasLostAttempt, IsPartOf, IsTurnOver, HasPolledRow};
+ghost use Rattle.asm_storage.specs.Part.{IsSure, IsJudgedOver, HasWon, IsJudged, HasLostAttempt, IsPartOf, IsTurnOver, HasPolledRow};
 
 use crate::call::{Answer, Call, Reply, fire_call};
 use crate::error::FireError;
@@ -23,10 +25,18 @@ use crate::part::offering::Offering;
 use crate::part::scanning::is_plain_over;
 use crate::receipt::Receipt;
 use crate::storage::Storage;
+use asm_aggregate::only_put;
 use asm_element::Items;
 use asm_state::{Named, Scanned};
 use asm_update::{Aggregator, Instructions};
 use std::alloc::{AllocError, Global};
+
+// Whether all were read at this number or a later one.
+fn are_read_from(number: u32, reads: &[Named]) -> bool
+    ensures { result ≡ list_all (λ r. nat_le number r.number) reads.now }
+{
+    reads.iter().all(|named| number <= named.number)
+}
 
 impl AgentPart {
     // Polls on, and has the state follow if the move needs it.
@@ -130,6 +140,72 @@ impl AgentPart {
         self.keep(storage, call, answer, stood)
     }
 
+    // Whether the move is sure to fire: the row has room, there is no scan, each declared read is as new as all that
+    // was seen, and the move is one put.
+    fn is_sure(&self, reads: &[Named], scans: &[Scanned], instrs: &Instructions) -> bool
+        ensures { OnTrue result (IsSure self.now.progress reads.now scans.now instrs.now) }
+    {
+        !self.progress.is_full()
+            && scans.is_empty()
+            && are_read_from(self.progress.seen_len(), reads)
+            && only_put(instrs).is_some()
+    }
+
+    // Judges a fire: the reply to one that fires nothing, with its receipt; None where the move is to fire, and there is
+    // room. If a scan was overtaken, the call that is judged and recorded is the one that declares what was written, so
+    // it is stale.
+    #[inline(never)]
+    fn judge_over<A: Aggregator + Sync + Drop>(
+        &mut self,
+        alloc: Global,
+        storage: &Storage<A>,
+        reads: &Items<Named>,
+        scans: &[Scanned],
+        instrs: &Instructions,
+    ) -> Result<Option<Reply>, AllocError>
+        requires part { IsPartOf A.meaning storage.now self.old }
+        requires level { is_plain_over reads.now scans.now instrs.now ≡ false →
+            self.old.state.number ≡ length self.old.progress.seen }
+        ensures part { IsPartOf A.meaning storage.now self.new }
+        ensures id { self.new.id ≡ self.old.id }
+        ensures err { OnErr result (agent_of storage.now self.new ≡ agent_of storage.now self.old) }
+        ensures judged { IfOk result (
+            IsJudgedOver A.meaning storage.now self.old self.new reads.now scans.now instrs.now) }
+    {
+        let named = self.named_over(alloc, storage, reads, scans)?;
+        match self.judge(alloc, storage, named.as_slice(), instrs)? {
+            Some(reply) => {
+                self.keep_reply(alloc, storage, &named, instrs, &reply)?;
+                Ok(Some(reply))
+            }
+            None => Ok(None),
+        }
+    }
+
+    // The same, where a move that is sure to fire isn't judged.
+    fn refusal<A: Aggregator + Sync + Drop>(
+        &mut self,
+        alloc: Global,
+        storage: &Storage<A>,
+        reads: &Items<Named>,
+        scans: &[Scanned],
+        instrs: &Instructions,
+    ) -> Result<Option<Reply>, AllocError>
+        requires part { IsPartOf A.meaning storage.now self.old }
+        requires level { is_plain_over reads.now scans.now instrs.now ≡ false →
+            self.old.state.number ≡ length self.old.progress.seen }
+        ensures part { IsPartOf A.meaning storage.now self.new }
+        ensures id { self.new.id ≡ self.old.id }
+        ensures err { OnErr result (agent_of storage.now self.new ≡ agent_of storage.now self.old) }
+        ensures judged { IfOk result (
+            IsJudgedOver A.meaning storage.now self.old self.new reads.now scans.now instrs.now) }
+    {
+        if self.is_sure(reads.as_slice(), scans, instrs) {
+            return Ok(None);
+        }
+        self.judge_over(alloc, storage, reads, scans, instrs)
+    }
+
     // Attempts to append a move that was judged to fire, and records the receipt if it won: the room for that is made
     // before. If it lost, another entry was seen, and the attempt's parts are returned.
     fn offer<A: Aggregator + Sync + Drop, F: FnMut()>(
@@ -229,8 +305,7 @@ impl AgentPart {
         }
     }
 
-    // One turn of a fire: the reply, or None if an attempt was lost. If a scan was overtaken, the call that is judged
-    // and recorded is the one that declares what was written, so it is stale.
+    // One turn of a fire: the reply, or None if an attempt was lost.
     fn turn<A: Aggregator + Sync + Drop, F: FnMut()>(
         &mut self,
         alloc: Global,
@@ -268,12 +343,8 @@ impl AgentPart {
         ensures calls { Ran (λ f g. F.step f tt g) between.old (offers_in result) between.new }
     {
         self.make_ready(alloc, storage, reads.as_slice(), scans, instrs)?;
-        let named = self.named_over(alloc, storage, reads, scans)?;
-        match self.judge(alloc, storage, named.as_slice(), instrs)? {
-            Some(reply) => {
-                self.keep_reply(alloc, storage, &named, instrs, &reply)?;
-                Ok(Some(reply))
-            }
+        match self.refusal(alloc, storage, reads, scans, instrs)? {
+            Some(reply) => Ok(Some(reply)),
             None => self.attempt(alloc, storage, reads, instrs, pending, between),
         }
     }

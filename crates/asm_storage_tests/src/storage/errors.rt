@@ -12,7 +12,7 @@ fn errors_have_their_texts(rt: HostRuntime) -> Result<(), Fail> {
         has_text(
             alloc,
             &FireError::Busy { from: 0, to: 64 },
-            "64 offers were lost"
+            "64 attempts to append were lost to other agents"
         )?
     );
     assert!(rt; has_text(alloc, &FireError::Memory, memory)?);

@@ -121,7 +121,7 @@ returns-in-Some-clause-fire g c =
     (subst (λ (o : Option Reply). IfSome o (IsVersionAfter (agent_of s mid) (agent_of s new)
     (is_plain_over c.args.reads.now c.args.scans.now c.args.instrs.now))) c.in-Some.is c.in_ok-reply.ensures.stands))
 
--- all offers were lost
+-- all attempts to append were lost
 pub returns-clause-fire : goal.returns-clause-fire
 returns-clause-fire g c =
     let meaning = g.A.Aggregator.meaning in
