@@ -14,7 +14,8 @@ from typing import Any
 # The most that the program reads of one journal, and that a storage has of moves.
 MOST_JOURNAL, MOST_CAPACITY = 2**24, 2**20
 SUFFIX = ".journal"
-NAME = re.compile(r"([0-9]{8})-(0|[1-9][0-9]{0,17})-(0|[1-9][0-9]{0,17})-([0-9a-f]{64})\.journal")
+NUMBER, DIGEST = "(0|[1-9][0-9]{0,19})", "([0-9a-f]{64})"
+NAME = re.compile(rf"([0-9]{{8}})-{NUMBER}-{NUMBER}-{NUMBER}-{DIGEST}-{DIGEST}\.journal")
 # How long a connection may be silent, in s, and how many may be open at once.
 SECONDS, CONNECTIONS = 10, 32
 
@@ -120,12 +121,15 @@ class Growing:
             os.close(folder)
 
     def _take_segment(self, folder: int, name: str) -> None:
-        found, number = NAME.fullmatch(name), self._segments
-        if not found or int(found[1]) != number or number == 0 and (found[2], found[3]) != ("0", "0"):
+        found = NAME.fullmatch(name)
+        number, first, moves, events = map(int, found.groups()[:4]) if found else (0, 0, 0, 0)
+        if not found or max(first + moves, events) >= 2**64 or number != self._segments or number == 0 and moves + events > 0:
             raise Refused(f"{name} is no name of it")
-        text, moves, events = read_journal(Path(name), folder), int(found[2]), int(found[3])
+        if (first, found[5]) != (self._moves, self._digest):
+            raise Refused(f"{name} has another FIRST or PREVIOUS than the segment before it leaves")
+        text = read_journal(Path(name), folder)
         chain = f"{self._digest} {number} {self._moves} {moves} {events} {len(text)}\n".encode()
-        if hashlib.sha256(chain + text).hexdigest() != found[4]:
+        if hashlib.sha256(chain + text).hexdigest() != found[6]:
             raise Refused("its text isn't the one that was saved")
         # The one before it is judged with it, so that it opens with the state there.
         self._asked("audit", self._before + text)
@@ -133,7 +137,7 @@ class Growing:
         if (len(lines) - 1, sum("updates" in it for it in lines)) != (events, moves):
             raise Refused("its text has other numbers than its name")
         self._add(lines)
-        self._segments, self._digest, self._before = number + 1, found[4], text
+        self._segments, self._digest, self._before = number + 1, found[6], text
 
     def _take_file(self) -> None:
         found = os.stat(self._run)

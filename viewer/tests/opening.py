@@ -187,8 +187,8 @@ class Chain:
     def add(self, history: History) -> Path:
         text, moves, events = write_journal(history), sum(isinstance(it.reply, Fired) for it in history.events), len(history.events)
         line = f"{self.digest} {self.number} {self.moves} {moves} {events} {len(text)}\n".encode()
-        self.digest = hashlib.sha256(line + text).hexdigest()
-        file = self.folder / f"{self.number:08}-{moves}-{events}-{self.digest}.journal"
+        before, self.digest = self.digest, hashlib.sha256(line + text).hexdigest()
+        file = self.folder / f"{self.number:08}-{self.moves}-{moves}-{events}-{before}-{self.digest}.journal"
         file.write_bytes(text)
         self.number, self.moves = self.number + 1, self.moves + moves
         return file
@@ -288,6 +288,14 @@ def try_refused_segments(tries: Tries, browser: Browser) -> None:
         file = chain.add(second)
         file.rename(file.with_name(file.name.replace("-1-2-", "-2-2-")))
 
+    def misplaced(chain: Chain, second: History) -> None:
+        file = chain.add(second)
+        file.rename(file.with_name(file.name.replace("-1-1-2-", "-0-1-2-")))
+
+    def unchained(chain: Chain, second: History) -> None:
+        before, file = chain.digest, chain.add(second)
+        file.rename(file.with_name(file.name.replace(before, "0" * 64)))
+
     def linked(chain: Chain, second: History) -> None:
         file = chain.add(second)
         file.rename(chain.folder / "elsewhere")
@@ -300,7 +308,7 @@ def try_refused_segments(tries: Tries, browser: Browser) -> None:
 
     for number, (make, why) in enumerate({
         apart: "apart", wrong_answer: "illegal", altered: "isn't the one that was saved", missing: "is no name of it",
-        renamed: "isn't the one that was saved", linked: "symbolic link", piped: "no regular file",
+        renamed: "isn't the one that was saved", misplaced: "another FIRST", unchained: "another FIRST or PREVIOUS", linked: "symbolic link", piped: "no regular file",
     }.items()):
         chain, second = growing_run(tries.room / f"refused{number}.run")
         make(chain, second)

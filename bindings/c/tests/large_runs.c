@@ -76,6 +76,18 @@ static void act_in_turn(uint32_t moves) {
     DOES(SAME, asm_take(&storage, 1, &agents[1]));
 }
 
+/* A close misses the move after so many that only an agent has seen that is freed. */
+static void close_without_last(uint32_t moves) {
+    int32_t code;
+    REQUIRE(asm_try_fire(&agents[2], TEXT(increment), &numbers) == ASM_DONE);
+    REQUIRE(numbers.fired == moves + 1);
+    asm_free_agent(&agents[2]);
+    DOES(SAME, asm_give(&storage, &agents[0]));
+    DOES(SAME, asm_give(&storage, &agents[1]));
+    COSTS(LINEAR, code = asm_close(&storage, &number));
+    REQUIRE(code == ASM_MISSING && number == moves + 1);
+}
+
 static void call_beside_moves(size_t count) {
     uint32_t moves = (uint32_t)count;
     open_counter(CAPACITY, 2);
@@ -90,6 +102,7 @@ static void call_beside_moves(size_t count) {
     DOES(LINEAR, asm_read(&agents[2], TEXT("[['n']]")));
     DOES(LINEAR, asm_moves(&storage, &number));
     REQUIRE(number == moves + 4 * ROUNDS);
+    close_without_last(number);
     end_all();
 }
 
@@ -156,6 +169,7 @@ static void call_beside_receipts(size_t count) {
     DOES(LINEAR, asm_journal(&storage, SAID));
     text journal = said_text();
     use_journal(journal, count + ROUNDS, 0, "[[['n'],0]]");
+    trace_all(journal, count + ROUNDS);
     free(places.at);
     free(journal.at);
     end_all();

@@ -37,15 +37,24 @@ final class RunFolder implements AutoCloseable {
     private final Object key;
     private final FileGuard lock;
     private Segment last = Segment.START;
-    /** How many bytes the file of the last segment has. */
-    private long size;
+    /** The file of the last segment, and what it was when it was written or found. */
+    private Path file;
+    private FileId written;
+
+    /** Which file it is, and how many bytes it has. */
+    private record FileId(Object key, long size) {
+        static FileId of(Path path, LinkOption... links) throws IOException {
+            BasicFileAttributes found = Files.readAttributes(path, BasicFileAttributes.class, links);
+            return new FileId(found.fileKey(), found.size());
+        }
+    }
 
     private RunFolder(Path path) throws IOException {
         this.path = path;
         folder = FileChannel.open(path, StandardOpenOption.READ);
         FileGuard taken = null;
         try {
-            key = key(path);
+            key = FileId.of(path).key();
             expectOwn(path);
             taken = lock = new FileGuard(path.resolve(LOCK));
             expectFolder();
@@ -88,7 +97,9 @@ final class RunFolder implements AutoCloseable {
         try {
             List<Segment> segments = Segment.of(real);
             there.last = segments.get(segments.size() - 1);
-            there.size = size(real.resolve(there.last.name()));
+            Segment before = segments.size() > 1 ? segments.get(segments.size() - 2) : Segment.START;
+            there.file = real.resolve(there.last.name(before.digest()));
+            there.written = FileId.of(there.file, LinkOption.NOFOLLOW_LINKS);
             Files.deleteIfExists(real.resolve(NEW));
             return there;
         } catch (IOException | RuntimeException | Error fault) {
@@ -137,19 +148,11 @@ final class RunFolder implements AutoCloseable {
         }
     }
 
-    private static Object key(Path path, LinkOption... links) throws IOException {
-        return Files.readAttributes(path, BasicFileAttributes.class, links).fileKey();
-    }
-
     /** Throws if the folder is another user's, who may replace what is in it. */
     private static void expectOwn(Path path) throws IOException {
         int owner = (Integer) Files.getAttribute(path, "unix:uid", LinkOption.NOFOLLOW_LINKS);
         if (owner != Posix.call("geteuid"))
             throw new AccessDeniedException(path.toString(), null, "the folder belongs to another user");
-    }
-
-    private static long size(Path path) throws IOException {
-        return Files.readAttributes(path, BasicFileAttributes.class, LinkOption.NOFOLLOW_LINKS).size();
     }
 
     Path path() {
@@ -167,17 +170,18 @@ final class RunFolder implements AutoCloseable {
         if (now.number() >= MOST)
             throw new FileSystemException(
                     path.toString(), null, "a run has at most 100,000,000 segments");
-        long length = text.remaining();
         expectFolder();
-        writeNew(text);
-        Files.move(path.resolve(NEW), path.resolve(now.name()), StandardCopyOption.ATOMIC_MOVE);
+        FileId made = writeNew(text);
+        Path named = path.resolve(now.name(last.digest()));
+        Files.move(path.resolve(NEW), named, StandardCopyOption.ATOMIC_MOVE);
         folder.force(true);
         last = now;
-        size = length;
+        file = named;
+        written = made;
         expectFolder();
     }
 
-    private void writeNew(ByteBuffer text) throws IOException {
+    private FileId writeNew(ByteBuffer text) throws IOException {
         Path made = path.resolve(NEW);
         Files.deleteIfExists(made);
         try (FileChannel file = FileChannel.open(made,
@@ -186,6 +190,7 @@ final class RunFolder implements AutoCloseable {
                 if (file.write(text) == 0)
                     throw new FileSystemException(made.toString(), null, "a write took no byte");
             file.force(true);
+            return FileId.of(made, LinkOption.NOFOLLOW_LINKS);
         } catch (IOException | RuntimeException | Error fault) {
             try {
                 Files.deleteIfExists(made); // the disk may be full of it
@@ -200,13 +205,13 @@ final class RunFolder implements AutoCloseable {
     private void expectFolder() throws IOException {
         long next = last.number() + 1;
         try {
-            if (!key(path).equals(key))
+            if (!FileId.of(path).key().equals(key))
                 throw new DamagedException(next, path + " was moved or replaced");
-            if (!key(path.resolve(LOCK), LinkOption.NOFOLLOW_LINKS).equals(lock.key()))
+            if (!FileId.of(path.resolve(LOCK), LinkOption.NOFOLLOW_LINKS).key().equals(lock.key()))
                 throw new DamagedException(next, "the lock in " + path + " was replaced");
-            if (next > 0 && size(path.resolve(last.name())) != size)
+            if (file != null && !FileId.of(file, LinkOption.NOFOLLOW_LINKS).equals(written))
                 throw new DamagedException(
-                        last.number(), "its file has another size than it was written with");
+                        last.number(), "its file was replaced, or has another size");
         } catch (NoSuchFileException missing) {
             throw new DamagedException(next, path + ": what the run has written was removed");
         }

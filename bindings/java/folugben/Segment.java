@@ -1,6 +1,7 @@
 package folugben;
 
 import java.io.IOException;
+import java.math.BigInteger;
 import java.nio.ByteBuffer;
 import java.nio.channels.FileChannel;
 import java.nio.charset.StandardCharsets;
@@ -32,8 +33,10 @@ record Segment(long number, long first, long moves, long events, String digest) 
     static final String SUFFIX = ".journal";
 
     private static final int PIECE = 1 << 16;
+    private static final String NUMBER = "-(0|[1-9][0-9]{0,19})";
+    private static final String DIGEST = "-([0-9a-f]{64})";
     private static final Pattern NAME = Pattern.compile(
-            "([0-9]{8})-(0|[1-9][0-9]{0,17})-(0|[1-9][0-9]{0,17})-([0-9a-f]{64})\\.journal");
+            "([0-9]{8})" + NUMBER + NUMBER + NUMBER + DIGEST + DIGEST + "\\.journal");
 
     /** Takes a piece of a text. */
     interface Sink {
@@ -45,9 +48,15 @@ record Segment(long number, long first, long moves, long events, String digest) 
         void give(Sink sink) throws IOException;
     }
 
-    /** Returns the name of its file. */
-    String name() {
-        return String.format(Locale.ROOT, "%08d-%d-%d-%s%s", number, moves, events, digest, SUFFIX);
+    /** Returns the name of its file, after the segment with the previous digest. */
+    String name(String previous) {
+        return String.format(Locale.ROOT, "%08d-%s-%s-%s-%s-%s%s", number, digits(first),
+                digits(moves), digits(events), previous, digest, SUFFIX);
+    }
+
+    /** Returns the digits of a number of a name, which is below 2^64. */
+    private static String digits(long number) {
+        return Long.toUnsignedString(number);
     }
 
     /** Returns the number of moves up to its end. */
@@ -65,7 +74,8 @@ record Segment(long number, long first, long moves, long events, String digest) 
 
     /** Returns the digest of all that comes before its text. */
     MessageDigest digestStart(String previous, long length) {
-        String line = previous + " " + number + " " + first + " " + moves + " " + events + " " + length;
+        String line = String.join(" ", previous, digits(number), digits(first), digits(moves),
+                digits(events), digits(length));
         try {
             MessageDigest digest = MessageDigest.getInstance("SHA-256");
             digest.update((line + "\n").getBytes(StandardCharsets.US_ASCII));
@@ -101,18 +111,30 @@ record Segment(long number, long first, long moves, long events, String digest) 
     /** Returns the segment after this one, whose file has the name. */
     private Segment named(String name) {
         Matcher match = NAME.matcher(name);
-        if (!match.matches())
+        if (!match.matches() || isLarge(match.group(2), match.group(3)) || isLarge(match.group(4), "0"))
             throw new DamagedException(number + 1, "\"" + name + "\" is no name of a segment");
         long found = Long.parseLong(match.group(1));
         if (found == number)
             throw new DamagedException(number, "another file has this number too: " + name);
         if (found != number + 1)
             throw new DamagedException(number + 1, "its file is missing");
-        Segment next = new Segment(found, end(), Long.parseLong(match.group(2)),
-                Long.parseLong(match.group(3)), match.group(4));
-        if (found == 0 && (next.moves > 0 || next.events > 0))
+        Segment next = new Segment(found, Long.parseUnsignedLong(match.group(2)),
+                Long.parseUnsignedLong(match.group(3)), Long.parseUnsignedLong(match.group(4)),
+                match.group(6));
+        if (found == 0 && (next.moves != 0 || next.events != 0))
             throw new DamagedException(0, "the opening segment has no event");
+        if (next.first != end())
+            throw new DamagedException(found, "its name has FIRST " + digits(next.first)
+                            + ", and the segments before it have " + digits(end()) + " moves");
+        if (!match.group(5).equals(digest))
+            throw new DamagedException(found,
+                    "its name has another PREVIOUS than the digest of the segment before it");
         return next;
+    }
+
+    /** Returns whether the sum of two numbers is 2^64 or more. */
+    private static boolean isLarge(String one, String other) {
+        return new BigInteger(one).add(new BigInteger(other)).bitLength() > Long.SIZE;
     }
 
     /**
@@ -144,7 +166,7 @@ record Segment(long number, long first, long moves, long events, String digest) 
 
     private void read(Path folder, String previous, Sink sink) throws IOException {
         byte[] piece = new byte[PIECE];
-        try (FileChannel file = opened(folder.resolve(name()))) {
+        try (FileChannel file = opened(folder.resolve(name(previous)))) {
             MessageDigest all = digestStart(previous, file.size());
             for (int length; (length = file.read(ByteBuffer.wrap(piece))) >= 0;) {
                 all.update(piece, 0, length);

@@ -18,8 +18,8 @@ CHUNK = 1 << 20
 # The chain's value before the first segment's digest.
 NO_DIGEST = "0" * 64
 _NEW, _LOCK, _SUFFIX = "new", "lock", ".journal"
-_NUMBER = "(0|[1-9][0-9]*)"
-_NAME = re.compile(rf"([0-9]{{8}})-{_NUMBER}-{_NUMBER}-([0-9a-f]{{64}})\.journal")
+_NUMBER, _DIGEST = "(0|[1-9][0-9]{0,19})", "([0-9a-f]{64})"
+_NAME = re.compile(rf"([0-9]{{8}})-{_NUMBER}-{_NUMBER}-{_NUMBER}-{_DIGEST}-{_DIGEST}\.journal")
 
 
 class Segment(NamedTuple):
@@ -34,10 +34,9 @@ class Segment(NamedTuple):
     events: int
     digest: str
 
-    @property
-    def name(self) -> str:
-        """The name of its file."""
-        return f"{self.number:08}-{self.moves}-{self.events}-{self.digest}{_SUFFIX}"
+    def name(self, previous: str) -> str:
+        """Return the name of its file, after the segment with the previous digest."""
+        return f"{self.number:08}-{self.first}-{self.moves}-{self.events}-{previous}-{self.digest}{_SUFFIX}"
 
     @property
     def end(self) -> int:
@@ -50,6 +49,27 @@ class Segment(NamedTuple):
         digest = start_digest(bare, self.digest, len(text))
         digest.update(text)
         return bare._replace(digest=digest.hexdigest())
+
+    def named(self, name: str) -> "Segment":
+        """Return the segment that comes next, whose file has the name.
+
+        Raises:
+            DamagedError: it is no name of that segment.
+        """
+        found, wanted = _NAME.fullmatch(name), self.number + 1
+        number, first, moves, events = map(int, found.groups()[:4]) if found else (0, 0, 0, 0)
+        if found is None or max(first + moves, events) >= 1 << 64:
+            raise DamagedError(wanted, f"{name!r} is no name of a segment")
+        if number != wanted:
+            detail = f"another file has this number too: {name}" if number == self.number else "its file is missing"
+            raise DamagedError(min(number, wanted), detail)
+        if number == 0 and moves + events > 0:
+            raise DamagedError(0, "the opening segment has no event")
+        if first != self.end:
+            raise DamagedError(number, f"its name has FIRST {first}, and the segments before it have {self.end} moves")
+        if found[5] != self.digest:
+            raise DamagedError(number, "its name has another PREVIOUS than the digest of the segment before it")
+        return Segment(number, first, moves, events, found[6])
 
 
 # The end of a run that has no segment yet.
@@ -79,16 +99,7 @@ class RunFolder:
         names = [it for it in os.listdir(self._fd) if it.endswith(_SUFFIX)]
         segments, last = [], START
         for name in sorted(names):
-            parsed = _NAME.fullmatch(name)
-            if parsed is None:
-                raise DamagedError(last.number + 1, f"{name!r} is no name of a segment")
-            number, moves, events = map(int, parsed.groups()[:3])
-            if number != last.number + 1:
-                detail = f"another file has this number too: {name}" if number == last.number else "its file is missing"
-                raise DamagedError(min(number, last.number + 1), detail)
-            if number == 0 and moves + events > 0:
-                raise DamagedError(0, "the opening segment has no event")
-            last = Segment(number, last.end, moves, events, parsed[4])
+            last = last.named(name)
             segments.append(last)
         if not segments:
             raise FileNotFoundError(errno.ENOENT, "the folder has no run", str(self.path))
@@ -101,7 +112,7 @@ class RunFolder:
             DamagedError: the text isn't the one that was saved; raised at the end of the text at the latest.
         """
         try:
-            file = open_regular(segment.name, self._fd)
+            file = open_regular(segment.name(previous), self._fd)
         except FileNotFoundError:
             raise DamagedError(segment.number, "its file is missing") from None
         except OSError as error:
@@ -139,7 +150,9 @@ class RunWriter(RunFolder):
 
     def __init__(self, path: pathlib.Path) -> None:
         super().__init__(path)
-        self._lock, self._size, self.last = -1, 0, START
+        self._lock, self.last = -1, START
+        # The name of the last segment's file, and what it was when it was written or found.
+        self._file: tuple[str, os.stat_result] | None = None
         try:
             if os.fstat(self._fd).st_uid != os.geteuid():
                 raise PermissionError(errno.EPERM, "the folder belongs to another user", str(path))
@@ -194,8 +207,9 @@ class RunWriter(RunFolder):
         writer = cls(folder.path)
         try:
             segments = writer.segments()
-            writer.last = segments[-1]
-            writer._size = os.stat(writer.last.name, dir_fd=writer._fd).st_size
+            before, writer.last = [START, *segments][-2:]
+            name = writer.last.name(before.digest)
+            writer._file = name, os.stat(name, dir_fd=writer._fd, follow_symlinks=False)
             writer._drop_new()
         except BaseException:
             writer.close()
@@ -211,13 +225,13 @@ class RunWriter(RunFolder):
         if now.number >= 10**8:
             raise OSError(errno.EFBIG, "a run has at most 100,000,000 segments", str(self.path))
         self._expect_unmoved()
-        self._write_new(text)
-        os.rename(_NEW, now.name, src_dir_fd=self._fd, dst_dir_fd=self._fd)
+        name, written = now.name(self.last.digest), self._write_new(text)
+        os.rename(_NEW, name, src_dir_fd=self._fd, dst_dir_fd=self._fd)
         os.fsync(self._fd)
-        self.last, self._size = now, len(text)
+        self.last, self._file = now, (name, written)
         self._expect_unmoved()
 
-    def _write_new(self, text: memoryview) -> None:
+    def _write_new(self, text: memoryview) -> os.stat_result:
         flags = os.O_WRONLY | os.O_CREAT | os.O_EXCL | os.O_CLOEXEC
         self._drop_new()
         fd = os.open(_NEW, flags, 0o600, dir_fd=self._fd)
@@ -229,6 +243,7 @@ class RunWriter(RunFolder):
                     raise OSError(errno.EIO, "a write took no byte", str(self.path / _NEW))
                 at += written
             os.fsync(fd)
+            return os.fstat(fd)
         except BaseException:
             # The disk may be full of it.
             with contextlib.suppress(OSError):
@@ -253,8 +268,11 @@ class RunWriter(RunFolder):
                 raise DamagedError(number, f"{self.path} was moved or replaced")
             if not _same(os.stat(_LOCK, dir_fd=self._fd, follow_symlinks=False), os.fstat(self._lock)):
                 raise DamagedError(number, f"the lock in {self.path} was replaced")
-            if number > 0 and os.stat(self.last.name, dir_fd=self._fd, follow_symlinks=False).st_size != self._size:
-                raise DamagedError(self.last.number, "its file has another size than it was written with")
+            if self._file is not None:
+                name, known = self._file
+                found = os.stat(name, dir_fd=self._fd, follow_symlinks=False)
+                if not _same(found, known) or found.st_size != known.st_size:
+                    raise DamagedError(self.last.number, "its file was replaced, or has another size")
         except FileNotFoundError as error:
             raise DamagedError(number, f"{self.path}: what the run has written was removed") from error
 

@@ -61,17 +61,23 @@ class Folders(Rooms):
                 agent.play(raised)
         file.unlink()
         shutil.copy(segments(self.room / "other")[2], self.path)
-        self.assert_refused(2, False)
+        self.assert_refused(2)
 
     def test_names_are_checked(self):
         names = [it.name for it in segments(self.path)]
         for number, altered in [
             (2, lambda: (self.path / names[2]).unlink()),
-            (2, lambda: (self.path / names[2]).rename(self.path / "00000009-4-4-00.journal")),
+            (2, lambda: (self.path / names[2]).rename(self.path / "00000009-4-4-4-00-00.journal")),
             (0, lambda: (self.path / names[0]).unlink()),
             (1, lambda: shutil.copy(self.path / names[1], self.path / names[1].replace("-4-4-", "-4-5-"))),
-            (0, lambda: (self.path / names[0]).rename(self.path / names[0].replace("-0-0-", "-1-1-"))),
             (5, lambda: (self.path / "0005.journal").touch()),
+            *((number, lambda number=number, old=old, new=new: (self.path / names[number]).rename(self.path / names[number].replace(old, new)))
+              for number, old, new in [
+                  (0, "-0-0-0-", "-1-0-0-"), (0, "-0-0-0-", "-0-1-0-"), (0, "-0-0-0-", "-0-0-1-"), (0, f"-{'0' * 64}-", f"-{'1' * 64}-"),
+                  (2, "-4-4-4-", "-0-4-4-"), (2, "-4-4-4-", "-5-4-4-"), (2, "-4-4-4-", "-4-4-"), (2, "-4-4-4-", "-04-4-4-"),
+                  (2, "-4-4-4-", "-4-4-+4-"), (2, "-4-4-4-", f"-4-{2**64 - 4}-4-"), (2, "-4-4-4-", f"-4-4-{2**64}-"), (2, "-4-4-4-", "-4-4-4-0"),
+                  (2, f"{names[1][-72:-8]}-", f"{'0' * 64}-"), (2, f"{names[1][-72:-8]}-", ""),
+              ]),
         ]:
             copy = self.room / "copy"
             shutil.copytree(self.path, copy)
@@ -79,6 +85,16 @@ class Folders(Rooms):
             self.assert_refused(number)
             shutil.rmtree(self.path)
             copy.rename(self.path)
+        # Where the digest of the one before is another one is said too.
+        for number, old, new, message in [
+            (3, "-4-4-4-", "-4-3-4-", "FIRST 8, and the segments before it have 7 moves"),
+            (3, names[2][-72:-8], "0" * 64, "another PREVIOUS"),
+        ]:
+            altered = self.path / names[2].replace(old, new)
+            (self.path / names[2]).rename(altered)
+            with self.assertRaisesRegex(DamagedError, f"segment {number}: its name has {message}"):
+                audit(self.path)
+            altered.rename(self.path / names[2])
         # Files that a copy or an editor leaves there have no effect, and neither does the removal of the last segments.
         (self.path / "notes").touch()
         (self.path / names[4]).unlink()
@@ -145,6 +161,14 @@ class AtWork(Rooms):
         self.assert_detected(lambda: segments(self.path)[1].unlink(), "was removed")
         shutil.rmtree(self.path)
         self.assert_detected(lambda: segments(self.path)[1].write_bytes(b"x"), "another size")
+        shutil.rmtree(self.path)
+        self.assert_detected(self.replace_last, "was replaced")
+
+    def replace_last(self):
+        """Put a file of the same size in the place of the last one."""
+        last, other = segments(self.path)[1], self.room / "other"
+        other.write_bytes(bytes(last.stat().st_size))
+        other.replace(last)
 
     def test_a_lock_that_is_replaced(self):
         self.assert_detected(lambda: ((self.path / "lock").unlink(), (self.path / "lock").touch()), "lock in .* was replaced")

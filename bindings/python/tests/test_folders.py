@@ -98,8 +98,9 @@ class Folders(Rooms):
             moves = (0, 4, 2)[number]
             text = file.read_bytes()
             line = f"{before} {number} {first} {moves} {moves} {len(text)}\n"
-            before, first = hashlib.sha256(line.encode() + text).hexdigest(), first + moves
-            self.assertEqual(file.name, f"{number:08}-{moves}-{moves}-{before}.journal")
+            digest = hashlib.sha256(line.encode() + text).hexdigest()
+            self.assertEqual(file.name, f"{number:08}-{first}-{moves}-{moves}-{before}-{digest}.journal")
+            before, first = digest, first + moves
         last = verify(self.path)
         self.assertEqual((last.number, last.end, last.digest), (2, 6, before))
 

@@ -26,8 +26,9 @@ impl Counts {
 
     pub(crate) fn add(&mut self, more: Counts) {
         self.parts += more.parts;
-        self.calls += more.calls;
-        self.moves += more.moves;
+        // Only the names of a damaged run have more than all calls that there may be.
+        self.calls = self.calls.wrapping_add(more.calls);
+        self.moves = self.moves.wrapping_add(more.moves);
     }
 }
 

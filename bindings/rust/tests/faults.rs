@@ -330,13 +330,27 @@ fn names_of_segments_are_checked() {
     let segments = room.segments();
     let name =
         |number: usize, from: &str, to: &str| PathBuf::from(segments[number].to_str().unwrap().replacen(from, to, 1));
+    let digest = |number: usize| segments[number].file_stem().unwrap().to_str().unwrap()[80..].to_owned();
+    let zeros = "0".repeat(64);
     for (from, to, segment) in [
         (2, room.path().join("gone"), 2),
-        (2, room.path().join("00000009-4-4-00.journal"), 2),
+        (2, room.path().join("00000009-4-4-4-00-00.journal"), 2),
         (0, room.path().join("gone"), 0),
-        (0, name(0, "-0-0-", "-1-1-"), 0),
+        (0, name(0, "-0-0-0-", "-1-0-0-"), 0),
+        (0, name(0, "-0-0-0-", "-0-1-0-"), 0),
+        (0, name(0, "-0-0-0-", "-0-0-1-"), 0),
+        (0, name(0, &zeros, &"1".repeat(64)), 0),
         (1, name(1, "-4-4-", "-04-4-"), 1),
         (1, name(1, "-4-4-", "-+4-4-"), 1),
+        (1, name(1, "-0-4-4-", "-1-4-4-"), 1),
+        (1, name(1, "-0-4-4-", "-4-4-"), 1),
+        (1, name(1, "-4-4-", "-3-4-"), 2),
+        (2, name(2, "-4-4-4-", "-4-18446744073709551612-4-"), 2),
+        (2, name(2, "-4-4-4-", "-4-4-18446744073709551616-"), 2),
+        (2, name(2, "-4-4-4-", "-4-4-4-0"), 2),
+        (2, name(2, &digest(1), &zeros), 2),
+        (2, name(2, &digest(2), &zeros), 3),
+        (2, name(2, &format!("-{}", digest(1)), ""), 2),
         (3, name(3, "00000003", "00000002"), 2),
         (4, name(4, "00000004", "00000005"), 4),
     ] {
@@ -353,7 +367,7 @@ fn names_of_segments_are_checked() {
 #[test]
 fn moved_removed_or_replaced_files_are_noticed() {
     type Alter = fn(&Room);
-    let alters: [(&str, Alter, &str); 7] = [
+    let alters: [(&str, Alter, &str); 8] = [
         ("move", |it| fs::rename(it.path(), it.path().with_extension("moved")).unwrap(), "was removed"),
         ("remove", |it| fs::remove_dir_all(it.path()).unwrap(), "was removed"),
         (
@@ -375,6 +389,15 @@ fn moved_removed_or_replaced_files_are_noticed() {
         ),
         ("last", |it| fs::remove_file(&it.segments()[1]).unwrap(), "was removed"),
         ("cut", |it| fs::write(&it.segments()[1], "x").unwrap(), "another size"),
+        (
+            "replace-last",
+            |it| {
+                let last = &it.segments()[1];
+                fs::write(it.path().join("other"), vec![0; fs::read(last).unwrap().len()]).unwrap();
+                fs::rename(it.path().join("other"), last).unwrap();
+            },
+            "was replaced",
+        ),
     ];
     for (name, alter, said) in alters {
         let room = Room::new(&format!("at-work-{name}"));

@@ -126,7 +126,7 @@ fn other_names_are_no_segments() {
     fs::write(room.path().join(OsStr::from_bytes(b"\xff\xfe")), "x").unwrap();
     assert_eq!(audit_run(room.path()).map(numbers), Ok((1, 0, 0)));
     Run::resume(room.path(), Check::All).unwrap().close().unwrap();
-    for name in [&b"\xff.journal"[..], b"zzz.journal", b"00000001-0-0-0.journal"] {
+    for name in [&b"\xff.journal"[..], b"zzz.journal", b"00000001-0-0-0-0-0.journal"] {
         let file = room.path().join(OsStr::from_bytes(name));
         fs::write(&file, "x").unwrap();
         for error in [audit_run(room.path()).err(), Run::resume(room.path(), Check::Last).err()] {
@@ -178,13 +178,13 @@ fn a_folder_that_is_no_run_is_refused_and_unchanged() {
 fn resume_with(room: &Room, text: &str, calls: u64, moves: u64) -> [Option<Error>; 2] {
     let last = room.segments().pop().unwrap();
     let name = last.file_name().unwrap().to_str().unwrap();
-    let before = room.segments()[1].file_name().unwrap().to_str().unwrap()[13..77].to_owned();
+    let before = room.segments()[1].file_stem().unwrap().to_str().unwrap()[80..].to_owned();
     let line = format!("{before} 2 5 {moves} {calls} {}\n", text.len());
     fs::write(room.path().join("both"), line + text).unwrap();
     let output = Command::new("sha256sum").arg(room.path().join("both")).output().unwrap();
     let digest = String::from_utf8(output.stdout).unwrap()[..64].to_owned();
     fs::remove_file(&last).unwrap();
-    fs::write(last.with_file_name(format!("{}{moves}-{calls}-{digest}.journal", &name[..9])), text).unwrap();
+    fs::write(last.with_file_name(format!("{}5-{moves}-{calls}-{before}-{digest}.journal", &name[..9])), text).unwrap();
     [Check::All, Check::Last].map(|check| Run::resume(room.path(), check).err())
 }
 

@@ -170,12 +170,35 @@ final class ResumeTests {
         List<Path> files = RunTests.files(path);
         Path second = files.get(1);
         String name = second.getFileName().toString();
-        for (String bad : List.of(name.replace("-2-2-", "-1-2-"), name.replace("-2-2-", "-2-3-"),
-                     name.replace("-2-2-", "-02-2-"), name.replace("00000001", "00000009"),
-                     name.replace("00000001", "1"), name + ".journal")) {
+        String zeros = "0".repeat(64);
+        for (String bad : List.of(name.replace("-2-2-", "-2-3-"), name.replace("-2-2-", "-02-2-"),
+                     name.replace("00000001", "00000009"), name.replace("00000001", "1"),
+                     name + ".journal", name.replace("-0-2-", "-1-2-"),
+                     name.replace("-0-2-", "-00-2-"), name.replace("-0-2-", "-2-"),
+                     name.replace("-0-2-", "-18446744073709551614-2-"),
+                     name.replace("-2-2-", "-2-18446744073709551616-"),
+                     name.replace("-2-2-", "-2-2-0"), name.replace("-2-2-", "-2-2-" + zeros + "-"),
+                     name.substring(0, 15) + zeros + name.substring(79))) {
             Files.move(second, path.resolve(bad));
             isDamaged(path, 1, Run.Check.ALL);
             Files.move(path.resolve(bad), second);
+        }
+        // Of these the names alone show the fault, which is between the second and the third.
+        for (String bad : List.of(name.replace("-2-2-", "-1-2-"),
+                     name.replace("-2-2-", "-18446744073709551615-2-"),
+                     name.substring(0, 80) + zeros + Segment.SUFFIX)) {
+            Files.move(second, path.resolve(bad));
+            isDamaged(path, 2, Run.Check.LAST);
+            Files.move(path.resolve(bad), second);
+        }
+        Path first = files.get(0);
+        String opening = first.getFileName().toString();
+        for (String bad : List.of(opening.replace("-0-0-0-", "-1-0-0-"),
+                     opening.replace("-0-0-0-", "-0-1-0-"), opening.replace("-0-0-0-", "-0-0-1-"),
+                     opening.replace("-" + zeros + "-", "-" + "1".repeat(64) + "-"))) {
+            Files.move(first, path.resolve(bad));
+            isDamaged(path, 0, Run.Check.LAST);
+            Files.move(path.resolve(bad), first);
         }
         Path twice = path.resolve(name.replace("-2-2-", "-2-1-"));
         Files.copy(second, twice);
@@ -203,7 +226,7 @@ final class ResumeTests {
                 .getBytes(StandardCharsets.UTF_8);
         Files.delete(last);
         Segment wrong = segments.get(2).following(1, 1, ByteBuffer.wrap(text));
-        Files.write(path.resolve(wrong.name()), text);
+        Files.write(path.resolve(wrong.name(segments.get(2).digest())), text);
         for (Run.Check check : Run.Check.values())
             try {
                 Run.resume(path, check).close();

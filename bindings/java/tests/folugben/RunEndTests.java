@@ -12,6 +12,7 @@ import java.io.IOException;
 import java.io.UncheckedIOException;
 import java.nio.file.Files;
 import java.nio.file.Path;
+import java.nio.file.StandardCopyOption;
 import java.util.Arrays;
 import java.util.BitSet;
 import java.util.Collections;
@@ -140,6 +141,13 @@ final class RunEndTests {
         Files.write(last, Arrays.copyOf(Files.readAllBytes(last), 20));
     }
 
+    /** Has a file of the same size in the place of the last one. */
+    private static void replaceLast(Path path) throws IOException {
+        Path last = RunTests.files(path).get(1);
+        Path other = Files.write(path.resolve("other"), new byte[(int) Files.size(last)]);
+        Files.move(other, last, StandardCopyOption.REPLACE_EXISTING);
+    }
+
     private static void move(Path path) throws IOException {
         Files.move(path, path.resolveSibling("moved"));
     }
@@ -156,8 +164,8 @@ final class RunEndTests {
 
     /** Each is noticed before a further segment is written, and by a step that is under way. */
     private static void harmEndsTheRun(Path path) throws Exception {
-        for (Harm harm : List.<Harm>of(RunEndTests::truncate, RunEndTests::move,
-                     RunEndTests::replace, RunEndTests::replaceLock)) {
+        for (Harm harm : List.<Harm>of(RunEndTests::truncate, RunEndTests::replaceLast,
+                     RunEndTests::move, RunEndTests::replace, RunEndTests::replaceLock)) {
             Run run = RunTests.open(path, 2);
             RunAgent agent = run.agent(0);
             RunAgent other = run.agent(1);

@@ -46,23 +46,24 @@ impl End {
 
     /// Returns the segment after this end, whose file has the name.
     fn segment_named(&self, name: &str) -> Result<Segment, Error> {
-        let next = self.counts.parts;
-        let Some((number, more, digest)) = parse_name(name) else {
+        let Counts { parts: next, moves, .. } = self.counts;
+        let Some(it) = Name::parse(name) else {
             return Err(damaged(next, format!("{name:?} is no name of a segment")));
         };
-        if number != next {
-            let is_twice = number + 1 == next;
-            let why = if is_twice {
-                format!("another file has this number too: {name}")
-            } else {
-                "its file is missing".to_owned()
-            };
-            return Err(damaged(number.min(next), why));
-        }
-        if number == 0 && (more.moves, more.calls) != (0, 0) {
-            return Err(damaged(0, "the opening segment has no event".to_owned()));
-        }
-        Ok(Segment { before: self.clone(), more, digest: digest.to_owned() })
+        let why = if it.number + 1 == next {
+            format!("another file has this number too: {name}")
+        } else if it.number != next {
+            "its file is missing".to_owned()
+        } else if next == 0 && (it.more.moves, it.more.calls) != (0, 0) {
+            "the opening segment has no event".to_owned()
+        } else if it.first != moves {
+            format!("its name has FIRST {}, and the segments before it have {moves} moves", it.first)
+        } else if it.previous != self.digest {
+            "its name has another PREVIOUS than the digest of the segment before it".to_owned()
+        } else {
+            return Ok(Segment { before: self.clone(), more: it.more, digest: it.digest.to_owned() });
+        };
+        Err(damaged(it.number.min(next), why))
     }
 }
 
@@ -81,8 +82,8 @@ impl Segment {
 
     /// Returns the name of its file.
     pub(crate) fn name(&self) -> String {
-        let Counts { moves, calls, .. } = self.more;
-        format!("{:08}-{moves}-{calls}-{}{SUFFIX}", self.number(), self.digest)
+        let (End { counts, digest: previous }, Counts { moves, calls, .. }) = (&self.before, self.more);
+        format!("{:08}-{}-{moves}-{calls}-{previous}-{}{SUFFIX}", counts.parts, counts.moves, self.digest)
     }
 
     pub(crate) fn end(&self) -> End {
@@ -161,16 +162,32 @@ pub(crate) fn is_name(name: &str) -> bool {
     name.ends_with(SUFFIX)
 }
 
-/// The number of a segment, how much it has, and the digest.
-fn parse_name(name: &str) -> Option<(u64, Counts, &str)> {
-    let mut words = name.strip_suffix(SUFFIX)?.split('-');
-    let [number, moves, calls, digest] = [words.next()?, words.next()?, words.next()?, words.next()?];
-    let is_digest = digest.len() == 64 && digest.bytes().all(|it| matches!(it, b'0'..=b'9' | b'a'..=b'f'));
-    let is_number = number.len() == 8 && number.bytes().all(|it| it.is_ascii_digit());
-    if words.next().is_some() || !is_digest || !is_number {
-        return None;
+/// What the name of a segment says: `NUMBER-FIRST-MOVES-EVENTS-PREVIOUS-DIGEST.journal`.
+struct Name<'a> {
+    number: u64,
+    first: u64,
+    more: Counts,
+    previous: &'a str,
+    digest: &'a str,
+}
+
+impl Name<'_> {
+    fn parse(name: &str) -> Option<Name<'_>> {
+        let words: Vec<_> = name.strip_suffix(SUFFIX)?.split('-').collect();
+        let [number, first, moves, calls, previous, digest] = words[..] else { return None };
+        let is_number = number.len() == 8 && number.bytes().all(|it| it.is_ascii_digit());
+        if !is_number || !is_digest(previous) || !is_digest(digest) {
+            return None;
+        }
+        let (first, moves) = (parse_number(first)?, parse_number(moves)?);
+        first.checked_add(moves)?;
+        let more = Counts { parts: 1, calls: parse_number(calls)?, moves };
+        Some(Name { number: number.parse().ok()?, first, more, previous, digest })
     }
-    Some((number.parse().ok()?, Counts { parts: 1, calls: parse_number(calls)?, moves: parse_number(moves)? }, digest))
+}
+
+fn is_digest(text: &str) -> bool {
+    text.len() == 64 && text.bytes().all(|it| matches!(it, b'0'..=b'9' | b'a'..=b'f'))
 }
 
 /// The number that is written so.
