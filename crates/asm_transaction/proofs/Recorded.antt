@@ -168,16 +168,18 @@ unfired {A} meaning mid new t reads M l r stale once k is =
 -- ---- the read and then the one fire
 
 pub recorded : {A : Type 0} (meaning : A → Meaning) (a mid new : AgentAt A) (t : TransactionView) (reads : List Named) (M : Move)
-    (o : Option NamedReading) (r : Result Reply FireError) → NamesAll t reads → M ≡ unwrap_or (one_move t.layers) [] →
+    (o : Option NamedReading) (r : Result Reply FireError) → NamesAll t reads → length reads + length t.scanned ≤ reads_limit →
+    M ≡ unwrap_or (one_move t.layers) [] →
     IsMoveOf t.layers M → IsReading meaning a mid reads o → FiresOnce meaning mid new t reads M r →
     (IsOf meaning mid t → Commits meaning mid new t r) → Records meaning a new t r
-recorded {A} meaning a mid new t reads M o r names one stands read once commits =
+recorded {A} meaning a mid new t reads M o r names few one stands read once commits =
     inl (record {
       mid = mid;
       reads = reads;
       reading = o;
       move = M;
       names = names;
+      few = few;
       read = read;
       gives = gives o read;
       one = one;
@@ -225,6 +227,14 @@ pub unrecorded : {A : Type 0} (old new : AgentAt A) (t : TransactionView) (reads
 unrecorded old new t reads fire_error.ManyReads names why = ((reads, names, omega (arith, why.0)), why.1)
 unrecorded old new t reads fire_error.Memory names why = why
 unrecorded old new t reads (fire_error.Busy from to) names why = absurd why
+
+-- at most 256 reads with the scans are at most 256 with their names
+pub names_few : (t inside : TransactionView) (scans : List Scanned) (reads lent : List Named) → inside ≡ t →
+    inside.scanned ≡ names_of scans → lent ≡ reads → length lent + length scans ≤ reads_limit →
+    length reads + length t.scanned ≤ reads_limit
+names_few t inside scans reads lent view are same few =
+    subst (λ (x : TransactionView). length reads + length x.scanned ≤ reads_limit) view
+    (omega (arith, few, ap length same, ap length are, length-map scans (λ (x : Scanned). string_bytes x.name)))
 
 pub names_many : (t inside : TransactionView) (scans : List Scanned) (reads lent : List Named) → inside ≡ t →
     inside.scanned ≡ names_of scans → lent ≡ reads → NamesAll t reads → reads_limit < length lent + length scans → NamesMany t

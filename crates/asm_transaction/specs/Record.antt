@@ -1,5 +1,5 @@
 -- What a commit does that first records what the transaction has read.
-use Rattle.std.specs.Prelude.{◌≡◌, ◌≢◌, ◌<◌, ◌+◌, ◌⊎◌, ℕ, List, [], length, map, unwrap_or, Ok, Err, Option, None, Some, Result}
+use Rattle.std.specs.Prelude.{◌≡◌, ◌≢◌, ◌<◌, ◌≤◌, ◌+◌, ◌⊎◌, ℕ, List, [], length, map, unwrap_or, Ok, Err, Option, None, Some, Result}
 use mathlib.Core.List.{IsPrefix}
 use Rattle.asm_state.specs.declared.named.Named.{Named}
 use Rattle.asm_update.specs.Aggregator.{Meaning}
@@ -46,8 +46,8 @@ GivesReads meaning old t reads (Some (Read r)) answer =
     IsOf meaning old t → r.values ≡ map (val (state_at meaning old t.number)) (places_of reads)
 GivesReads meaning old t reads (Some (Stale l)) answer = (k : ℕ) → answer ≢ Ok (Fired k)
 
--- the agent has validated all that the commit declares, has read it with a receipt if none of it was stale, and has then
--- fired the one move of the pushed moves once, which is the commit
+-- the agent has validated all that the commit declares, which is with the scans at most 256, has read it with a receipt if
+-- none of it was stale, and has then fired the one move of the pushed moves once, which is the commit
 pub record RecordsReads {A : Type 0} (meaning : A → Meaning) (old new : AgentAt A) (t : TransactionView)
     (r : Result Reply FireError) : Type 0 where
   pub mid : AgentAt A
@@ -55,6 +55,7 @@ pub record RecordsReads {A : Type 0} (meaning : A → Meaning) (old new : AgentA
   pub reading : Option NamedReading
   pub move : Move
   pub names : NamesAll t reads
+  pub few : length reads + length t.scanned ≤ reads_limit
   pub read : IsReading meaning old mid reads reading
   pub gives : GivesReads meaning old t reads reading r
   pub one : move ≡ unwrap_or (one_move t.layers) []

@@ -1,7 +1,8 @@
 //! A commit that first records what the transaction has read.
-ghost use Rattle.std.specs.Prelude.{◌≡◌, [], unwrap_or, IfErr, IfOk};
+ghost use Rattle.std.specs.Prelude.{◌≡◌, ◌≤◌, ◌+◌, [], length, unwrap_or, IfErr, IfOk};
 ghost use mathlib.Core.List.{IsPrefix};
 ghost use Rattle.asm_step.specs.Layers.{one_move};
+ghost use Rattle.asm_storage.specs.Limits.{reads_limit};
 ghost use Rattle.asm_storage.specs.Part.{agent_of, IsPartOf};
 ghost use Rattle.asm_storage.specs.Storage.{IsSameAgent};
 ghost use Rattle.asm_transaction.specs.Commit.{IsMoveOf, NamesAll};
@@ -76,6 +77,7 @@ impl Transaction {
         ensures names { IfOk result (λ p. NamesAll self.now p.1) }
         ensures one { IfOk result (λ p. p.0 ≡ unwrap_or (one_move self.now.layers) []) }
         ensures stands { IfOk result (λ p. IsMoveOf self.now.layers p.0) }
+        ensures few { IfOk result (λ p. length p.1 + length self.now.scanned ≤ reads_limit) }
         ensures err { IfErr result (IsUnprepared self.now) }
     {
         let (instrs, reads) = match self.prepare(alloc) {

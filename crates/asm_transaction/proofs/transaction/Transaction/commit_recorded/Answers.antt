@@ -13,7 +13,7 @@ returns-clause-records g c =
     let new = c.fire_prepared.new.agent in
     let t = c.args.self.now in
     let o = c.in-Ok-read_named.field-0 in
-    recorded meaning old mid new t c.in-Ok.prepared.1 c.in-Ok.prepared.0 o c.fire_prepared.result c.in-Ok.ensures.names c.in-Ok.ensures.one
+    recorded meaning old mid new t c.in-Ok.prepared.1 c.in-Ok.prepared.0 o c.fire_prepared.result c.in-Ok.ensures.names c.in-Ok.ensures.few c.in-Ok.ensures.one
     c.in-Ok.ensures.stands
     (subst (λ (rs : List Named). IsReading meaning old mid rs o) c.as_slice.ensures c.in-Ok-read_named.ensures.read)
     (subst (λ (rs : List Named). FiresOnce meaning mid new t rs c.in-Ok.prepared.0 c.fire_prepared.result) c.as_slice-2.ensures

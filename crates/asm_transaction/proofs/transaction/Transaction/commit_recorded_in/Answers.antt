@@ -13,7 +13,7 @@ returns-clause-records g c =
     let new = agent_of c.args.storage.now c.fire_prepared_in.new.part in
     let t = c.args.self.now in
     let o = c.in-Ok-read_named_in.field-0 in
-    recorded meaning old mid new t c.in-Ok.prepared.1 c.in-Ok.prepared.0 o c.fire_prepared_in.result c.in-Ok.ensures.names c.in-Ok.ensures.one
+    recorded meaning old mid new t c.in-Ok.prepared.1 c.in-Ok.prepared.0 o c.fire_prepared_in.result c.in-Ok.ensures.names c.in-Ok.ensures.few c.in-Ok.ensures.one
     c.in-Ok.ensures.stands
     (subst (λ (rs : List Named). IsReading meaning old mid rs o) c.as_slice.ensures c.in-Ok-read_named_in.ensures.read)
     c.fire_prepared_in.ensures.once
