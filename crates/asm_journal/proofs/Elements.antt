@@ -260,6 +260,13 @@ list_written (Ok o) items d es x is same whole h =
     h ∙ ap (one_of (codes "list")) whole ∙ ap list_json parts ∙ ap element_json_of (sym is)
 list_written (Err e) items d es x is same whole h = tt
 
+-- the JSON of a list, by that of its elements
+pub list_is_spelt : (es : List Element) (list : Sequence) (x : Element) → x ≡ elements.List list → es ≡ elements_of list
+    → list_json (items_of (map element_json_of es)) ≡ element_json_of x
+list_is_spelt es list x is same =
+    ap (λ xs. list_json (items_of (map element_json_of xs))) same
+    ∙ ap list_json (sequence_json (elements_of list) ∙ ap items_json_of (sequence-elements list)) ∙ ap element_json_of (sym is)
+
 pub counted_once : (p q : Element × ℕ) (ds : Items) → IsCounted p ds → IsCounted q ds → p ≡ q
 counted_once p q ds h k =
     let parts = same_items _ _ _ _ (sym h.2 ∙ k.2) in

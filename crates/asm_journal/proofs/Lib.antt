@@ -19,3 +19,4 @@ pub mod RoundTrip
 pub mod GoesOn
 pub mod Compact
 pub mod FrontObjects
+pub mod Spelt

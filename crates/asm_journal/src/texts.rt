@@ -1,22 +1,25 @@
-//! The texts of answers, of moves, and of states and update sets.
-ghost use Rattle.std.specs.Prelude.{◌≡◌, IfOk, string_bytes, false};
-ghost use Rattle.serde_json.specs.View.{view};
-ghost use Rattle.serde_json.specs.Written.{compact_text, has_float};
+//! The texts of values, of answers, of moves, and of states and update sets.
+ghost use Rattle.std.specs.Prelude.{◌≡◌, IfOk, string_bytes};
+ghost use Rattle.serde_json.specs.Written.{compact_text};
 ghost use Rattle.asm_journal.specs.Event.{answer_json_of, move_json_of};
 ghost use Rattle.asm_journal.specs.Text.{state_json_of};
+ghost use Rattle.asm_journal.specs.Value.{value_json_of};
 
-use crate::form::ToJson;
+use crate::spelling::text_of;
+use asm_element::Value;
 use asm_storage::Answer;
 use asm_update::{Instructions, PlainState, UpdateSet};
-use serde_json::Value as Json;
 use std::alloc::{AllocError, Global};
 
-/// Return the compact text of a value without floats.
-fn compact(alloc: Global, json: &Json) -> Result<String, AllocError>
-    requires { has_float (view json.now) ≡ false }
-    ensures { IfOk result (λ s. string_bytes s ≡ compact_text (view json.now)) }
+/// Write a value as a journal does.
+///
+/// # Errors
+///
+/// - `AllocError` only if memory is refused.
+pub fn value_text(alloc: Global, value: &Value) -> Result<String, AllocError>
+    ensures { IfOk result (λ s. string_bytes s ≡ compact_text (value_json_of value.now)) }
 {
-    json.to_string(alloc)
+    text_of(alloc, value)
 }
 
 /// Write an answer as a journal does.
@@ -26,11 +29,10 @@ fn compact(alloc: Global, json: &Json) -> Result<String, AllocError>
 /// # Errors
 ///
 /// - `AllocError` only if memory is refused.
-#[tactic(auto, using(crate::proofs::Floats::answer_no_float))]
 pub fn answer_text(alloc: Global, answer: &Answer) -> Result<String, AllocError>
     ensures { IfOk result (λ s. string_bytes s ≡ compact_text (answer_json_of answer.now)) }
 {
-    compact(alloc, &answer.to_json(alloc)?)
+    text_of(alloc, answer)
 }
 
 /// Write a state as a journal writes an opening state.
@@ -40,11 +42,10 @@ pub fn answer_text(alloc: Global, answer: &Answer) -> Result<String, AllocError>
 /// # Errors
 ///
 /// - `AllocError` only if memory is refused.
-#[tactic(auto, using(crate::proofs::Floats::state_no_float))]
 pub fn state_text(alloc: Global, state: &PlainState) -> Result<String, AllocError>
     ensures { IfOk result (λ s. string_bytes s ≡ compact_text (state_json_of state.now)) }
 {
-    compact(alloc, &state.to_json(alloc)?)
+    text_of(alloc, state)
 }
 
 /// Write an update set as a state is written.
@@ -54,11 +55,10 @@ pub fn state_text(alloc: Global, state: &PlainState) -> Result<String, AllocErro
 /// # Errors
 ///
 /// - `AllocError` only if memory is refused.
-#[tactic(auto, using(crate::proofs::Floats::state_no_float))]
 pub fn updates_text(alloc: Global, updates: &UpdateSet) -> Result<String, AllocError>
     ensures { IfOk result (λ s. string_bytes s ≡ compact_text (state_json_of updates.now)) }
 {
-    compact(alloc, &updates.to_json(alloc)?)
+    text_of(alloc, updates)
 }
 
 /// Write a move as a journal does in a fire: its instructions, in their order.
@@ -66,9 +66,8 @@ pub fn updates_text(alloc: Global, updates: &UpdateSet) -> Result<String, AllocE
 /// # Errors
 ///
 /// - `AllocError` only if memory is refused.
-#[tactic(auto, using(crate::proofs::Floats::move_no_float))]
 pub fn move_text(alloc: Global, instrs: &Instructions) -> Result<String, AllocError>
     ensures { IfOk result (λ s. string_bytes s ≡ compact_text (move_json_of instrs.now)) }
 {
-    compact(alloc, &instrs.to_json(alloc)?)
+    text_of(alloc, instrs)
 }

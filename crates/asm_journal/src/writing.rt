@@ -9,6 +9,7 @@ ghost use Rattle.asm_journal.specs.Event.{event_json_of};
 ghost use Rattle.asm_journal.specs.Text.{header_members_of, header_of, line, numbers_members_of, state_json_of, text_of};
 
 use crate::form::ToJson;
+use crate::spelling::{ToText, push_member, push_sign};
 use asm_storage::{Closing, Event, History};
 use asm_update::PlainState;
 use serde_json::{Map, Value as Json};
@@ -38,24 +39,20 @@ impl Numbers<'_> {
         Ok(members)
     }
 
-    /// Return the JSON of a journal's header.
-    fn header_json(&self, alloc: Global) -> Result<Json, AllocError>
-        ensures { IfOk result (λ json. view json ≡
-            header_of self.now.agents self.now.capacity self.now.events (state_json_of self.now.init.now)) }
-    {
-        let mut header = self.members(alloc)?;
-        serde_json::put(&mut header, alloc, "version", Json::from(2u32))?;
-        Ok(Json::Object(header))
-    }
-
     /// Return the text of a journal's header: its line.
     fn header_line(&self, alloc: Global) -> Result<String, AllocError>
         ensures { IfOk result (λ text. string_bytes text ≡ line (header_of
             self.now.agents self.now.capacity self.now.events (state_json_of self.now.init.now))) }
     {
-        let header = self.header_json(alloc)?;
-        let mut text = String::new(alloc);
-        push_line(alloc, &mut text, &header)?;
+        let mut text = String::with_capacity(alloc, 128)?;
+        push_sign(&mut text, '{')?;
+        push_member(alloc, &mut text, false, "agents", &self.agents)?;
+        push_member(alloc, &mut text, true, "capacity", &self.capacity)?;
+        push_member(alloc, &mut text, true, "events", &self.events)?;
+        push_member(alloc, &mut text, true, "init", self.init)?;
+        push_member(alloc, &mut text, true, "version", &2u32)?;
+        push_sign(&mut text, '}')?;
+        push_sign(&mut text, '\n')?;
         Ok(text)
     }
 }
@@ -110,7 +107,9 @@ pub fn push_line(alloc: Global, text: &mut String, json: &Json) -> Result<(), Al
 fn push_event(alloc: Global, text: &mut String, event: &Event) -> Result<(), AllocError>
     ensures { OnOk result (string_bytes text.new ≡ string_bytes text.old ++ line (event_json_of event.now)) }
 {
-    push_line(alloc, text, &event.to_json(alloc)?)
+    event.push_text(alloc, text)?;
+    push_sign(text, '\n')?;
+    Ok(())
 }
 
 /// Write a history as a journal of version 2: a header, and a line for each event.

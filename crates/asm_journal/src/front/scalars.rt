@@ -59,7 +59,7 @@ pub(crate) fn integer(text: &[u8]) -> Option<(i64, &[u8])>
 }
 
 /// Return whether the byte in quotes means itself, and doesn't end the text.
-fn is_own(byte: u8) -> bool
+pub(crate) fn is_own(byte: u8) -> bool
     ensures { result ≡ is_plain byte }
 {
     byte >= 32 && byte != b'"' && byte != b'\\'

@@ -1,5 +1,5 @@
-use Rattle.asm_journal.proofs.Floats.{event_no_float}
+use Rattle.asm_journal.proofs.Spelt.{two_pieces}
 use Rattle.asm_journal.proofs.writing.push_event.Goals as goal
 
-pub push_line-requires : goal.push_line-requires
-push_line-requires c = rw c.in_ok-to_json.ensures (event_no_float c.args.event.now)
+pub returns : goal.returns
+returns c = two_pieces _ _ _ _ _ c.in_ok-push_text.ensures c.in_ok-push_sign.ensures
