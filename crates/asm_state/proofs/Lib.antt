@@ -8,6 +8,7 @@ pub mod Judged
 pub mod LeastFound
 pub mod Onward
 pub mod OpeningState
+pub mod Counted
 pub mod Wanted
 pub mod Overwritten
 pub mod Settled

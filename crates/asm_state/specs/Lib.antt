@@ -9,3 +9,4 @@ pub mod FollowsFrom
 pub mod Verdict
 pub mod View
 pub mod Change
+pub mod Shown

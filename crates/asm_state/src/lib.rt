@@ -10,6 +10,7 @@ pub mod laws;
 mod named;
 mod plain;
 mod scanned;
+mod shown;
 mod state;
 mod verdict;
 

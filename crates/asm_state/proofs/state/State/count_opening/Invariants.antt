@@ -1,0 +1,11 @@
+use Rattle.std.proofs.Common.{None}
+use Rattle.asm_state.specs.Shown.{shown_as_opened}
+use Rattle.asm_state.proofs.Counted.{IsAhead, IsCounting}
+use Rattle.asm_state.proofs.state.State.count_opening.Given as goal
+
+abbrev pub invariant-loop-at : goal.invariant-loop-at
+invariant-loop-at g l = record {
+  ahead : IsAhead l.first l.self.base l.at-iterator;
+  counting : IsCounting (λ q. None)
+      (shown_as_opened l.self l.first.name (g.L.Lookup.value_at l.shown)) l.at-iterator l.count;
+}
