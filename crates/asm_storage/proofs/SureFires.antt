@@ -1,19 +1,26 @@
--- A put without scans whose reads are as new as all that was seen fires, while the row has room.
-use Rattle.std.proofs.Common.{◌≡◌, ◌+◌, ◌<◌, ◌≤◌, false, List, [], length, Some, None, refl, ap, sym, subst}
-use Rattle.std.specs.Prelude.{IsOk}
+-- Puts that agree, without scans, whose reads are as new as all that was seen, fire while the row has room.
+use Rattle.std.proofs.Common.{◌≡◌, ◌+◌, ◌<◌, ◌≤◌, Bool, true, false, cond, not, List, [], length, map, Some, None, refl, ap, sym, subst, ◌∙◌}
+use Rattle.std.specs.Bool.{OnTrue}
+use Rattle.std.specs.Prelude.{IfSome, IsOk, MatchOption, Option, is_some}
+use Rattle.std.specs.Borrow.{Bor}
+use Rattle.std.proofs.lemmas.Bool.{OnTrue_from, false≢true}
 use Rattle.std.proofs.lemmas.List.{length-map}
 use Rattle.std.proofs.lemmas.List.Elements.{All-from_recursion}
 use mathlib.Core.List.{IsPrefix}
 use Rattle.asm_row.specs.Seat.{SeatView}
-use Rattle.asm_element.specs.Place.{Place}
+use Rattle.std.specs.List.{filter_map}
+use Rattle.std.specs.Ordering.{eq_by_cmp}
+use Rattle.asm_element.specs.Place.{Place, location_cmp}
 use Rattle.asm_element.specs.declared.value.Value.{Value}
 use Rattle.asm_update.specs.Aggregator.{Meaning}
 use Rattle.asm_update.specs.Fire.{Part, fire, state_of}
-use Rattle.asm_update.specs.Move.{Move}
-use Rattle.asm_update.specs.State.{State, val}
-use Rattle.asm_update.proofs.FireLemmas.{fire_updates}
+use Rattle.asm_update.specs.Action.{regular_value}
+use Rattle.asm_update.specs.Move.{Move, IsLeast, are_different, has_two}
+use Rattle.asm_update.specs.State.{State}
+use Rattle.asm_update.specs.declared.action.Instruction.{Instruction}
+use Rattle.asm_update.proofs.PlainLemmas.{plain_fires}
 use Rattle.asm_aggregate.specs.OnlyPut.{only_put}
-use Rattle.asm_aggregate.proofs.OnlyPut.{alone, only_put_updates}
+use Rattle.asm_aggregate.proofs.OnlyPut.{is_put, put}
 use Rattle.asm_state.specs.declared.named.Named.{Named}
 use Rattle.asm_state.specs.declared.scanned.Scanned.{Scanned}
 use Rattle.asm_state.proofs.Writers.{none_stale}
@@ -24,15 +31,36 @@ use Rattle.asm_storage.specs.declared.entry.Entry.{Entry}
 use Rattle.asm_storage.specs.declared.part.AgentPart.{AgentPart}
 use Rattle.asm_storage.specs.Agents.{moves_seen}
 use Rattle.asm_storage.specs.Machine.{Machine}
-use Rattle.asm_storage.specs.Part.{agent_of, HasPolledRow, IsJudged, IsJudgedOver, IsPartOf, IsSure}
+use Rattle.asm_storage.specs.Part.{agent_of, HasPolledRow, IsJudged, IsJudgedOver, IsPartOf, AreAgreed, IsSure}
 use Rattle.asm_storage.specs.Scans.{IsFound, IsUnwritten}
 use Rattle.asm_storage.specs.Storage.{AgentAt, StorageView, has_polled, last_poll, machine_of, IsReplyOf, Missed}
 use Rattle.asm_storage.proofs.FireTurns.{judged_reply}
 
--- a put fires on every state
-put_fires : (part : Part) (A : State) (M : Move) (l : Place) (v : Value) → only_put M ≡ Some (l, v) → IsOk (fire part A M)
-put_fires part A M l v is =
-    subst IsOk (sym (fire_updates part A M (alone l v) (only_put_updates part (val A) M l v is))) refl
+-- puts that agree fire on every state
+puts_fire : (part : Part) (A : State) (M : Move) → AreAgreed M → IsOk (fire part A M)
+puts_fire part A M agreed = subst IsOk (sym (plain_fires part A M agreed.0 agreed.1)) refl
+
+-- puts agree where no least location has two values
+pub agree_by : (M : Move) (o : Option (Bor Place)) (b : Bool) → is_some o ≡ not b →
+    MatchOption o ((l : Place) → has_two M l ≡ false) (λ l. IsLeast (has_two M) l.now) →
+    OnTrue b ((l : Place) → has_two M l ≡ false)
+agree_by M None b is none = OnTrue_from b _ (λ e. none)
+agree_by M (Some l) b is least = OnTrue_from b _ (λ e. absurd (false≢true (sym (is ∙ ap not e))))
+
+-- one put agrees with itself
+put_agrees : (M : Move) (l : Place) (v : Value) → only_put M ≡ Some (l, v) → AreAgreed M
+put_agrees M l v is = subst AreAgreed (sym (is_put M l v is)) (refl, alone) where
+  by_test : (q : Place) (b : Bool) → are_different (filter_map regular_value (map (λ (i : Instruction). i.action) (cond b (put l v) []))) ≡ false
+  by_test q true = refl
+  by_test q false = refl
+
+  alone : (q : Place) → has_two (put l v) q ≡ false
+  alone q = by_test q (eq_by_cmp location_cmp l q)
+
+pub one_agrees : (M : Move) (o : Option (Bor Place × Bor Value)) → IfSome o (λ p. only_put M ≡ Some (p.0.now, p.1.now)) →
+    is_some o ≡ true → AreAgreed M
+one_agrees M (Some p) is some = put_agrees M p.0.now p.1.now is
+one_agrees M None is some = absurd (false≢true some)
 
 -- the sequential storage's reply to a fire that is sure is `Fired`
 pub sure_fires : (m : Machine) (p : SeatView Entry) (reads : List Named) (scans : List Scanned) (M : Move) →
@@ -43,7 +71,7 @@ sure_fires m p reads scans M capacity sure =
     let room : length p.seen < m.capacity = subst (λ n. length p.seen < n) capacity sure.room in
     judged_reply m p.seen reads M false None room (
       sym (none_stale m.part m.init q (length p.seen) reads count sure.fresh),
-      put_fires m.part (state_of m.part m.init q) M sure.put.0 sure.put.1 sure.put.2,
+      puts_fire m.part (state_of m.part m.init q) M sure.agreed,
       refl,
     )
 

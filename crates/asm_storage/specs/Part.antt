@@ -5,8 +5,7 @@ use Rattle.std.specs.List.{list_all}
 use Rattle.asm_row.specs.Seat.{SeatView}
 use Rattle.asm_element.specs.Place.{Place}
 use Rattle.asm_element.specs.declared.value.Value.{Value}
-use Rattle.asm_aggregate.specs.OnlyPut.{only_put}
-use Rattle.asm_update.specs.Move.{Move}
+use Rattle.asm_update.specs.Move.{Move, all_regular, has_two}
 use Rattle.asm_state.specs.declared.named.Named.{Named}
 use Rattle.asm_storage.specs.declared.call.Call.TheVariants as call
 use Rattle.asm_storage.specs.declared.part.offering.Offering.{Offering}
@@ -105,13 +104,17 @@ IsJudged m seen reads M None =
     (answer.Fire (reply.Fired (length seen + 1)) ≡ reply_to m (moves_seen seen) (call.Fire reads M))
     × (length seen < m.capacity)
 
--- the move is sure to fire, whatever its partial updates mean and whatever the state has: the row has room, there is no
--- scan, each declared read is as new as all that was seen, and the move is one put
+-- each instruction is a put, and no location is given two values
+abbrev pub AreAgreed : Move → Type 0
+AreAgreed M = (all_regular M ≡ true) × ((l : Place) → has_two M l ≡ false)
+
+-- the move is sure to fire, whatever the state has: the row has room, there is no scan, each declared read is as new as all
+-- that was seen, and the move has puts alone, which agree
 pub record IsSure (p : SeatView Entry) (reads : List Named) (scans : List Scanned) (M : Move) : Type 0 where
   pub room : length p.seen < length p.row
   pub unscanned : scans ≡ []
   pub fresh : list_all (λ r. nat_le (length p.seen) r.number) reads ≡ true
-  pub put : (location : Place) × (value : Value) × (only_put M ≡ Some (location, value))
+  pub agreed : AreAgreed M
 
 -- a fire was judged on all that the agent has seen. It has a reply, which fires nothing, is that of the sequential storage
 -- to the fire that names what was found of the scans too, and has its receipt; or with None it is to fire, there is room,

@@ -20,12 +20,11 @@ use crate::call::{Answer, Call, Reply, fire_call};
 use crate::error::FireError;
 use crate::limits::{OFFERS_LIMIT, READS_LIMIT};
 use crate::part::AgentPart;
-use crate::part::judging::{is_plain, judged, judged_plain};
+use crate::part::judging::{are_agreed, is_plain, judged, judged_plain};
 use crate::part::offering::Offering;
 use crate::part::scanning::is_plain_over;
 use crate::receipt::Receipt;
 use crate::storage::Storage;
-use asm_aggregate::only_put;
 use asm_element::Items;
 use asm_state::{Named, Scanned};
 use asm_update::{Aggregator, Instructions};
@@ -141,14 +140,14 @@ impl AgentPart {
     }
 
     // Whether the move is sure to fire: the row has room, there is no scan, each declared read is as new as all that
-    // was seen, and the move is one put.
+    // was seen, and the move has puts alone, which agree.
     fn is_sure(&self, reads: &[Named], scans: &[Scanned], instrs: &Instructions) -> bool
         ensures { OnTrue result (IsSure self.now.progress reads.now scans.now instrs.now) }
     {
         !self.progress.is_full()
             && scans.is_empty()
             && are_read_from(self.progress.seen_len(), reads)
-            && only_put(instrs).is_some()
+            && are_agreed(instrs)
     }
 
     // Judges a fire: the reply to one that fires nothing, with its receipt; None where the move is to fire, and there is

@@ -1,13 +1,16 @@
-ghost use Rattle.std.specs.Prelude.{◌≡◌, List, IfOk, Some, None, true, if◌then◌else◌};
+ghost use Rattle.std.specs.Prelude.{◌≡◌, List, IfOk, Some, None, true, false, if◌then◌else◌};
 ghost use Rattle.asm_update.specs.Fire.{Part};
-ghost use Rattle.asm_update.specs.Move.{Move};
+ghost use Rattle.asm_element.specs.Place.{Place};
+ghost use Rattle.asm_update.specs.Move.{Move, has_two};
 ghost use Rattle.asm_update.specs.State as plain;
 ghost use Rattle.asm_state.specs.FollowsFrom.{FollowsFrom};
 ghost use Rattle.asm_storage.specs.declared.call.Reply.TheVariants as reply;
-ghost use Rattle.asm_storage.specs.Part.{IsReplyAt};
+ghost use Rattle.std.specs.Bool.{OnTrue};
+ghost use Rattle.asm_storage.specs.Part.{AreAgreed, IsReplyAt};
 ghost use Rattle.asm_storage.specs.Calls.{is_plain};
 
 use crate::call::Reply;
+use asm_aggregate::only_put;
 use asm_state::{Named, Objection, State};
 use asm_update::{Aggregator, Cause, Clash, Instructions, consistent};
 use std::alloc::{AllocError, Global};
@@ -52,7 +55,27 @@ pub(crate) fn is_plain(reads: &[Named], instrs: &Instructions) -> bool
     }
 }
 
-// What is answered to such a move, on a row that is full or not; no state is asked.
+// Whether no location is given two values.
+fn agree(instrs: &Instructions) -> bool
+    ensures { OnTrue result ((l : Place) → has_two instrs.now l ≡ false) }
+{
+    consistent(instrs).is_none()
+}
+
+// Whether a move has puts alone, which agree, so that it fires on every state. A wide one isn't tested.
+pub(crate) fn are_agreed(instrs: &Instructions) -> bool
+    ensures { OnTrue result (AreAgreed instrs.now) }
+{
+    if only_put(instrs).is_some() {
+        return true;
+    }
+    if instrs.len() > MOST_PLAIN || !instrs.all_regular() {
+        return false;
+    }
+    agree(instrs)
+}
+
+// What is answered to a move that depends on no read and no old value, on a row that is full or not; no state is asked.
 pub(crate) fn judged_plain(
     alloc: Global,
     is_full: bool,
