@@ -5,7 +5,9 @@
 //! (CoreASM's pushed and popped states).
 #![tactic(auto)]
 
+mod alone;
 mod amounts;
+mod clearing;
 mod error;
 mod front;
 mod held;

@@ -268,7 +268,7 @@ impl Step {
 
     // The move, if it is one that was pushed alone.
     #[tactic(auto, using(crate::proofs::OneMove::alone_by))]
-    fn alone_move(&self) -> Option<&Instructions>
+    pub(crate) fn alone_move(&self) -> Option<&Instructions>
         ensures { option_copied result ≡ alone_of self.now }
     {
         match self.top() {
