@@ -9,4 +9,5 @@ pub mod Scans
 pub mod PoppedMoves
 pub mod Crossing
 pub mod MemberCounts
+pub mod Counts
 pub mod Unfired

@@ -54,14 +54,6 @@ no_top [] is = refl
 no_top (y ∷ []) is = cc
 no_top (y ∷ z ∷ layers) is = let none : z ∷ layers ≡ [] = no_top (z ∷ layers) is in cc
 
--- the last moves are those of the topmost layer
-pub last_moves_are : (layers : List Layer) (Ms : List Move) → Some Ms ≡ option_map (λ (y : Layer). y.moves) (top_of layers) →
-    Ms ≡ moves_of layers
-last_moves_are layers Ms is = by_top (top_of layers) is where
-  by_top : (o : Option Layer) → Some Ms ≡ option_map (λ (y : Layer). y.moves) o → Ms ≡ option_map_or (λ (y : Layer). y.moves) o []
-  by_top (Some y) is = cc
-  by_top None is = cc
-
 -- the moves of the layer on top are those that were pushed last
 of_top : (o : Option Layer) (Ms : List Move) → Some Ms ≡ option_map (λ (y : Layer). y.moves) o → Ms ≡ option_map_or (λ (y : Layer). y.moves) o []
 of_top (Some y) Ms is = cc

@@ -5,7 +5,7 @@ use Rattle.std.specs.List.{list_any}
 use Rattle.std.specs.Prelude.{nat_eq}
 use Rattle.std.proofs.lemmas.Bool.{false≢true}
 use Rattle.std.proofs.lemmas.Cmp.{nat_list_eq_equiv}
-use Rattle.std.proofs.lemmas.List.{length-map, length_push, map-append}
+use Rattle.std.proofs.lemmas.List.{length-map, length_push}
 use Rattle.std.proofs.lemmas.List.Elements.{All-push}
 use Rattle.std.proofs.lemmas.Map.Views.{Contains-from_any, list_any-from_Contains}
 use Rattle.asm_element.proofs.Same.{same_list}
@@ -14,7 +14,7 @@ use Rattle.asm_state.specs.declared.scanned.Scanned.{Scanned}
 use Rattle.asm_storage.specs.Limits.{reads_limit}
 use Rattle.asm_transaction.specs.View.{TransactionView, names_of, places_of}
 use Rattle.asm_transaction.specs.Reading.{IsUnseen}
-use Rattle.asm_transaction.specs.Scanning.{HasScanned, IsNoScanFor, IsScanFor, IsUnscanned, IsUntaken, has_scan}
+use Rattle.asm_transaction.specs.Scanning.{IsNoScanFor, IsScanFor, IsUnscanned, IsUntaken, has_scan}
 use Rattle.asm_transaction.specs.declared.error.TransactionError.{TransactionError}
 use Rattle.asm_transaction.specs.declared.error.TransactionError.TheVariants as transaction_error
 
@@ -46,24 +46,6 @@ few_scans tracked old mid new name number limit (Some scan) room few numbers sam
     let put : new ≡ old ++ scan ∷ [] = some ∙ ap (λ xs. xs ++ scan ∷ []) same in
     subst (λ xs. (length tracked + length xs ≤ reads_limit) × All (λ x. x.number ≡ number) xs) (sym put)
     (omega (arith, length_push old scan, is.3, room), All-push (λ x. x.number ≡ number) old scan numbers is.1)
-
--- so the function is scanned
-pub scanned_too : (s : TransactionView) (old mid new : List Scanned) (name : List ℕ) (limit : ℕ) (scan : Option Scanned) →
-    names_of old ≡ s.scanned → length s.tracked + limit ≤ reads_limit → mid ≡ old → IsScanFor limit old name s.number scan →
-    IfSome scan (λ one. new ≡ mid ++ one ∷ []) → IfNone scan (new ≡ mid) → HasScanned name s (record s { scanned = names_of new })
-scanned_too s old mid new name limit None view room same is some none =
-    inl (subst (λ ns. Contains ns name) view is, ap (λ ns. record s { scanned = ns }) (ap names_of (none ∙ same) ∙ view))
-scanned_too s old mid new name limit (Some scan) view room same is some none =
-    let put : new ≡ old ++ scan ∷ [] = some ∙ ap (λ xs. xs ++ scan ∷ []) same in
-    let names : names_of new ≡ s.scanned ++ name ∷ [] =
-    ap names_of put ∙ map-append (λ x. string_bytes x.name) old (scan ∷ []) ∙ ap (λ n. names_of old ++ n ∷ []) is.0
-    ∙ ap (λ ns. ns ++ name ∷ []) view in
-    let longer : length new ≡ length old + 1 = ap length put ∙ length_push old scan in
-    inr (
-      (λ has. is.2 (subst (λ ns. Contains ns name) (sym view) has)),
-      ap (λ ns. record s { scanned = ns }) names,
-      omega (arith, length-map new (λ (x : Scanned). string_bytes x.name), longer, is.3, room),
-    )
 
 -- each scan has one name
 pub few_places : {X : Type 0} (tracked : List X) (scans : List Scanned) → length tracked + length scans ≤ reads_limit →
@@ -101,9 +83,3 @@ pub unscanned_unseen : (name : List ℕ) (n : ℕ) (t : TransactionView) (e : Tr
 unscanned_unseen name n t transaction_error.Moved why = why
 unscanned_unseen name n t transaction_error.ManyReads why = absurd why
 unscanned_unseen name n t transaction_error.Memory why = tt
-
-pub not_scanned : (t inside : TransactionView) (tracked : List Named) (scans : List Scanned) (name : List ℕ) (n limit : ℕ)
-    (e : TransactionError) → inside ≡ t → inside.tracked ≡ places_of tracked → inside.scanned ≡ names_of scans →
-    reads_limit ≤ length tracked + limit → IsNoScanFor limit scans name e → IsUnscanned name n t e
-not_scanned t inside tracked scans name n limit e view places names room why =
-    unscanned_untaken name n t e (not_taken t inside tracked scans name limit e view places names room why)

@@ -1,5 +1,5 @@
 -- Lists of tracked locations.
-use Rattle.std.proofs.Common.{◌≡◌, ◌≤◌, ◌<◌, ◌+◌, ◌∙◌, ℕ, zero, suc, Bool, true, false, cond, List, [], ◌∷◌, ◌++◌, append-nil, append_assoc, All, Contains, HoldsAt, length, take, drop, get_or, Result, Ok, Err, arith, ⊎_elim, refl, ap, subst, sym}
+use Rattle.std.proofs.Common.{◌≡◌, ◌≤◌, ◌<◌, ◌+◌, ◌∙◌, ℕ, zero, suc, Bool, true, cond, List, [], ◌∷◌, ◌++◌, append-nil, append_assoc, All, Contains, HoldsAt, length, take, drop, get_or, Result, Ok, Err, arith, ⊎_elim, refl, ap, subst, sym}
 use Rattle.std.specs.List.{insert}
 use Rattle.std.specs.Prelude.{IfErr, IfOk}
 use Rattle.std.specs.List.Sorted.{IsBinarySearchResult, IsNonDecreasingBy, IsPartitionPoint, IsSearchInRange, IsStrictlySortedBy}
@@ -193,15 +193,6 @@ module _ (inside t : TransactionView) (reads : List Named) (l : Place) (view : i
 
   ascend : IsStrictlySortedBy location_cmp inside.tracked
   ascend = subst (IsStrictlySortedBy location_cmp) (sym are) up
-
-  -- what is shown there isn't made from below
-  pub not_from_below : shows_below inside.layers l ≡ false → HasTracked (l ∷ []) t t
-  not_from_below hidden =
-      subst (λ (x : TransactionView). HasTracked (l ∷ []) x x) view (
-        refl,
-        subst (λ (b : Bool). AreEach (inside.tracked ++ cond b (l ∷ []) []) inside.tracked) (sym hidden) (each_itself inside.tracked ascend),
-        whole,
-      )
 
   -- the location is one of those that are tracked
   pub tracked_already : shows_below inside.layers l ≡ true → Contains (places_of reads) l → HasTracked (l ∷ []) t t

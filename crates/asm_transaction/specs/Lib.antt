@@ -7,3 +7,4 @@ pub mod Commit
 pub mod Record
 pub mod Popping
 pub mod Members
+pub mod Counting

@@ -5,6 +5,7 @@
 #![tactic(auto)]
 
 mod committing;
+mod counting;
 mod depending;
 mod error;
 mod laws;

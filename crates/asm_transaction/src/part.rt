@@ -2,7 +2,7 @@
 //!
 //! Each takes the storage and the agent's part in place of the agent, and has the contract of the call of that name over
 //! the agent of this part.
-ghost use Rattle.std.specs.Prelude.{◌≡◌, [], length, unwrap_or, IfOk, OnOk};
+ghost use Rattle.std.specs.Prelude.{◌≡◌, [], length, unwrap_or, IfOk, OnErr, OnOk};
 ghost use Rattle.asm_step.specs.Layers.{one_move};
 ghost use Rattle.asm_storage.specs.Part.{agent_of, HasPolledRow, IsPartOf};
 ghost use Rattle.asm_storage.specs.Storage.{IsUpToDate, last_poll, Missed};
@@ -67,8 +67,31 @@ impl Transaction {
         Ok(Transaction::at(alloc, number))
     }
 
-    /// Do what `commit` does.
-    pub fn commit_in<A: Aggregator + Sync + Drop>(
+    /// Do what `begin` does, in the memory of this transaction.
+    ///
+    /// On error, it is unchanged.
+    pub fn begin_again_in<A: Aggregator + Sync + Drop>(
+        &mut self,
+        alloc: Global,
+        storage: &Storage<A>,
+        part: &mut AgentPart,
+    ) -> Result<(), AllocError>
+        requires { IsPartOf A.meaning storage.now part.old }
+        ensures polled { HasPolledRow A.meaning storage.now part.old part.new }
+        ensures missed { Missed (agent_of storage.now part.old) (last_poll (agent_of storage.now part.new))
+            (agent_of storage.now part.new) }
+        ensures level { OnOk result (IsUpToDate (agent_of storage.now part.new)) }
+        ensures begun { OnOk result (self.new ≡ new_transaction (length (agent_of storage.now part.new).account.seen)) }
+        ensures of { OnOk result (IsOf A.meaning (agent_of storage.now part.new) self.new) }
+        ensures stays { OnErr result (self.new ≡ self.old) }
+    {
+        let number = part.follow(alloc, storage)?;
+        self.restart(number);
+        Ok(())
+    }
+
+    // Do what `commit` does, with a copy of the one move.
+    fn commit_made_in<A: Aggregator + Sync + Drop>(
         &self,
         alloc: Global,
         storage: &Storage<A>,
@@ -82,6 +105,28 @@ impl Transaction {
     {
         match self.prepare(alloc) {
             Ok((instrs, reads)) => fire_prepared_in(alloc, storage, part, self, &instrs, &reads),
+            Err(_) => Err(FireError::Memory),
+        }
+    }
+
+    /// Do what `commit` does.
+    pub fn commit_in<A: Aggregator + Sync + Drop>(
+        &self,
+        alloc: Global,
+        storage: &Storage<A>,
+        part: &mut AgentPart,
+    ) -> Result<Reply, FireError>
+        requires { IsPartOf A.meaning storage.now part.old }
+        ensures part { IsPartOf A.meaning storage.now part.new }
+        ensures commits { IsOf A.meaning (agent_of storage.now part.old) self.now →
+            Commits A.meaning (agent_of storage.now part.old) (agent_of storage.now part.new) self.now result }
+        ensures one_fire { IsOneFire A.meaning (agent_of storage.now part.old) (agent_of storage.now part.new) self.now result }
+    {
+        let Some(instrs) = self.step.as_move_in_place() else {
+            return self.commit_made_in(alloc, storage, part);
+        };
+        match self.reads(alloc) {
+            Ok(reads) => fire_prepared_in(alloc, storage, part, self, instrs, &reads),
             Err(_) => Err(FireError::Memory),
         }
     }

@@ -18,7 +18,6 @@ use std::marker::Model;
 /// for each pushed move with those that extend it, the locations that it tracks, and the names of the functions that it
 /// has scanned. `IsOf` says that it is a transaction of this agent: `begin` makes it so, and each call of either keeps it
 /// so.
-#[derive(Drop)]
 pub struct Transaction {
     pub(crate) number: u32,
     pub(crate) step: Step,
@@ -56,6 +55,18 @@ impl Model for Transaction {
         × All (λ scan. scan.number ≡ t.number) t.scanned.items };
 }
 
+// Written by hand, so that code that drops a transaction has one call, independent of what is pushed.
+impl Drop for Transaction {
+    fn drop(self) {
+        let Transaction {
+            number: _,
+            step: _,
+            tracked: _,
+            scanned: _,
+        } = self;
+    }
+}
+
 impl Transaction {
     // Return a transaction at this version, without moves; it takes no memory.
     pub(crate) fn at(alloc: Global, number: u32) -> Transaction
@@ -87,6 +98,23 @@ impl Transaction {
     {
         let number = agent.follow(alloc)?;
         Ok(Transaction::at(alloc, number))
+    }
+
+    /// Return a transaction at version 0 without moves; it takes no memory.
+    pub fn empty(alloc: Global) -> Transaction
+        ensures { result ≡ new_transaction 0 }
+    {
+        Transaction::at(alloc, 0)
+    }
+
+    /// Become a transaction at this version without moves, and retain the memory of the lists.
+    pub fn restart(&mut self, number: u32)
+        ensures { self.new ≡ new_transaction number }
+    {
+        self.step.clear();
+        self.tracked.clear();
+        self.scanned.clear();
+        self.number = number;
     }
 
     /// Return the version at which it began: how many moves had been fired.
