@@ -56,7 +56,8 @@
  *    read before that of its fire, and with ASM_BUSY and ASM_MEMORY the first alone. No other call
  *    adds one.
  *  - After asm_follow, asm_stands and asm_begin the agent may have seen more moves, with ASM_MEMORY
- *    too. asm_audit takes bytes with each code except ASM_TAKEN. A push or an extension that is
+ *    too. asm_audit takes bytes with each code except ASM_TAKEN. After asm_run_end with another code
+ *    than ASM_DONE, ASM_EMPTY and ASM_ORDER a run reads nothing more. A push or an extension that is
  *    refused (ASM_CLASH, ASM_MANY, ASM_LONG_MOVE, ASM_LARGE, ASM_SMALL) leaves the pushed moves
  *    unchanged, and may track locations. ASM_MANY of asm_commit_recorded leaves both slots
  *    unchanged. After any other call, each code except ASM_DONE means that the slots are unchanged.
@@ -183,7 +184,17 @@ enum asm_code {
                             asm_go_on */
     ASM_MANY_CALLS = 33, /* more calls than the 4,294,967,295 that a journal holds: asm_close */
     ASM_LONG_LINE = 34,  /* a line of more than 1,073,741,824 bytes: asm_audit */
-    ASM_LONG_MOVE = 35   /* a move of more than 4,096 instructions */
+    ASM_LONG_MOVE = 35,  /* a move of more than 4,096 instructions */
+    ASM_NAME = 36,       /* not the name of a segment: asm_run_name */
+    ASM_ORDER = 37,      /* another call on the run comes next */
+    ASM_NOT_NEXT = 38,   /* not the number of the next segment: asm_run_name */
+    ASM_OPENING = 39,    /* segment 0 has events, or something before it: asm_run_name,
+                            asm_run_hand */
+    ASM_PREVIOUS = 40,   /* not the segment after the one before it: asm_run_name */
+    ASM_DAMAGED = 41,    /* not the text that was saved: asm_run_end */
+    ASM_COUNTS = 42,     /* a segment has other counts than its name says: asm_run_end */
+    ASM_LONG_RUN = 43,   /* 100,000,000 segments, or 2^64 moves or more */
+    ASM_ONE_SEGMENT = 44 /* the only segment of a run isn't dropped: asm_run_drop */
 };
 
 /* Writes what a code means, in a line of English. ASM_SMALL. */
@@ -217,6 +228,9 @@ struct asm_move {
     asm_slot slot;
 };
 struct asm_audit {
+    asm_slot slot;
+};
+struct asm_run {
     asm_slot slot;
 };
 
@@ -534,6 +548,18 @@ FOLUGBEN_NODISCARD static inline int32_t asm_has(struct asm_agent *agent, struct
 FOLUGBEN_NODISCARD int32_t asm_size(struct asm_agent *agent, struct asm_step *step,
     struct asm_location *at, uint64_t *size);
 
+/* `*any` is 1 if asm_step_scan would list a location of the function, else 0. It writes no text, and
+ * asks for locations up to the first that has a value. The function is scanned as by that call,
+ * whatever the answer. `*any` is 0 with each code except ASM_DONE. ASM_MANY: the function isn't
+ * scanned yet, and 256 places are taken. ASM_SHAPE: the name isn't UTF-8. ASM_MOVED, ASM_EMPTY (one
+ * of the slots), ASM_MEMORY. */
+FOLUGBEN_NODISCARD int32_t asm_any(struct asm_agent *agent, struct asm_step *step,
+    const uint8_t *name, size_t len, uint32_t *any);
+
+/* The same, but returns how many locations asm_step_scan would list, in time that grows with them. */
+FOLUGBEN_NODISCARD int32_t asm_count(struct asm_agent *agent, struct asm_step *step,
+    const uint8_t *name, size_t len, uint64_t *count);
+
 /* Appends an instruction at a prepared location to the move in a slot; an empty slot holds the move
  * of this instruction then. The operand is given by its kind, its number (as in asm_value) and its
  * bytes, of which a text, a list, a set and a bag alone have any; a set and a bag can be put, and
@@ -720,6 +746,10 @@ static inline void asm_free_audit(struct asm_audit *audit) {
     if (audit)
         asm_free(&audit->slot);
 }
+static inline void asm_free_run(struct asm_run *run) {
+    if (run)
+        asm_free(&run->slot);
+}
 
 /* Checks a journal: whether each answer is the one that a sequential storage gives there. ASM_DONE:
  * it is legal, with the numbers of its calls and of its moves. ASM_ILLEGAL: `*calls` is the number
@@ -761,6 +791,113 @@ FOLUGBEN_NODISCARD int32_t asm_audited(struct asm_audit *audit, asm_audit_number
  * ASM_NO_PART, ASM_SMALL, ASM_MEMORY. */
 FOLUGBEN_NODISCARD int32_t asm_audit_state(struct asm_audit *audit, uint8_t *out, size_t room,
     size_t *written);
+
+/* A RUN is a folder of segments, each the journal of one storage, which opens with the state that
+ * the one before it leaves. The name of a segment has its number, the moves before it, its moves
+ * and events, the digest of the one before it and its own (docs/FORMATS.md). The library makes no
+ * call of the system: asm_run_request says which one comes next, the caller makes it, and reports
+ * by asm_run_done or asm_run_failed. Then no crash and no power failure loses what asm_run_saved
+ * reports, except what was dropped by order (docs/DURABILITY.md, which has the premises).
+ *
+ * To open: lock the folder (flock), so that one process has it. asm_run_open; flush the folder and
+ * the one above it. Then for each file that ends in .journal, in ascending order of names:
+ * asm_run_name, asm_run_text with all bytes of its text, in pieces of any length, and asm_run_end.
+ * Then asm_run_read. A new run begins the same way, with no file.
+ *
+ * To save: asm_run_hand, then, until asm_run_request returns ASM_REST: make the call, asm_run_done.
+ * To drop the oldest segment: asm_run_drop, and the same. If a call fails: asm_run_failed; nothing
+ * more is saved, and another process, or asm_run_open on another slot, goes on with what is saved.
+ * bindings/c/folder.c has all of it. asm_free_run abandons the run; what is saved stays. */
+typedef enum asm_request {
+    ASM_REST = 0,         /* nothing: what was ordered is done, or the run has ended */
+    ASM_REMOVE_NEW = 1,   /* remove the file `new`, if there is one */
+    ASM_CREATE_NEW = 2,   /* create `new`, which isn't there: O_CREAT and O_EXCL */
+    ASM_WRITE_NEW = 3,    /* write all bytes of the text that was handed over */
+    ASM_FLUSH_NEW = 4,    /* flush the file (fsync) */
+    ASM_RENAME_NEW = 5,   /* rename it to the name that asm_run_hand wrote */
+    ASM_FLUSH_FOLDER = 6, /* flush the folder (fsync) */
+    ASM_REMOVE_OLDEST = 7 /* remove the segment with the number that asm_run_drop reported */
+} asm_request;
+
+/* What the name of a segment says. */
+typedef struct asm_segment {
+    uint64_t number; /* its number, from 0 */
+    uint64_t first;  /* how many moves the segments before it have */
+    uint64_t moves;  /* how many moves it has */
+    uint64_t events; /* how many events it has */
+} asm_segment;
+
+/* What is saved of a run. */
+typedef struct asm_run_numbers {
+    uint64_t first;    /* the number of the oldest segment; those before it were dropped */
+    uint64_t segments; /* how many segments there are, with those that were dropped */
+    uint64_t moves;    /* how many moves they have */
+} asm_run_numbers;
+
+/* Begins with a folder that this process has locked, in an empty slot. ASM_TAKEN, ASM_MEMORY. */
+FOLUGBEN_NODISCARD int32_t asm_run_open(struct asm_run *run);
+
+/* Takes the next name, of a text of so many bytes; `*found` is what it says. The first one may have
+ * any number: those before it were dropped. ASM_EMPTY; then the first of: ASM_ORDER (a text comes
+ * next, or was refused), ASM_NAME (also if it isn't UTF-8), ASM_NOT_NEXT (a segment is missing, or
+ * two have one number), ASM_OPENING (segment 0 has events, or something before it), ASM_PREVIOUS
+ * (the name has another digest, or another number of moves, of the segments before it),
+ * ASM_DAMAGED (2^64 - 1 bytes), ASM_LONG_RUN, ASM_MEMORY. With each of these nothing changes. */
+FOLUGBEN_NODISCARD int32_t asm_run_name(struct asm_run *run, const uint8_t *name, size_t len,
+    uint64_t bytes, asm_segment *found);
+
+/* Takes the next bytes of its text; asm_run_end reports its faults, refused memory too. ASM_EMPTY,
+ * ASM_ORDER (no text comes next): nothing changes. */
+FOLUGBEN_NODISCARD int32_t asm_run_text(struct asm_run *run, const uint8_t *bytes, size_t len);
+
+/* Ends the text. ASM_DONE: it is the one that was saved and continues the run, with the numbers of
+ * all texts that were read. ASM_EMPTY, ASM_ORDER (no text comes next): nothing changes. Then the
+ * first of: ASM_DAMAGED (it has another digest or length), the codes of asm_audit with their
+ * numbers, where parts are the texts that were read, ASM_LONG_RUN, ASM_COUNTS (it isn't one journal
+ * with the moves and events of its name). After one of these nothing more is read; after ASM_MEMORY
+ * begin again with another slot. */
+FOLUGBEN_NODISCARD int32_t asm_run_end(struct asm_run *run, asm_audit_numbers *told);
+
+/* Ends the segment in place of asm_run_text and asm_run_end: its name is checked, its text isn't.
+ * ASM_EMPTY, ASM_ORDER (no text comes next, or one was read): nothing changes. */
+FOLUGBEN_NODISCARD int32_t asm_run_skip(struct asm_run *run);
+
+/* Writes the state [PAIR, ..] that the segments leave, with which the next storage must open.
+ * ASM_EMPTY, ASM_NO_PART (no text was read), ASM_SMALL, ASM_MEMORY. */
+FOLUGBEN_NODISCARD int32_t asm_run_state(struct asm_run *run, uint8_t *out, size_t room,
+    size_t *written);
+
+/* Goes on after the segments that were read: now they may be saved and dropped. ASM_EMPTY,
+ * ASM_ORDER (it was called before, the run has failed, or a text is open or was refused). */
+FOLUGBEN_NODISCARD int32_t asm_run_read(struct asm_run *run);
+
+/* Begins to save the next segment, a journal with this text, which has so many moves and events,
+ * and writes its name, of at most 209 bytes. The text isn't checked: it must be the journal of a
+ * storage that opened with the state that the segments leave. Segment 0 is that of a storage without
+ * a call, which may open with any state. ASM_EMPTY, ASM_ORDER (something is being saved or dropped,
+ * the run has failed, or asm_run_read comes first), ASM_LONG_RUN, ASM_OPENING (segment 0 has moves
+ * or events), ASM_SMALL, ASM_MEMORY. */
+FOLUGBEN_NODISCARD int32_t asm_run_hand(struct asm_run *run, uint64_t moves, uint64_t events,
+    const uint8_t *text, size_t len, uint8_t *out, size_t room, size_t *written);
+
+/* Begins to drop the oldest segment, the file with this number. ASM_EMPTY, ASM_ORDER (as of
+ * asm_run_hand), ASM_ONE_SEGMENT (there are fewer than two). */
+FOLUGBEN_NODISCARD int32_t asm_run_drop(struct asm_run *run, uint64_t *number);
+
+/* Reports the call of the system that comes next, an asm_request. ASM_EMPTY. */
+FOLUGBEN_NODISCARD int32_t asm_run_request(struct asm_run *run, int32_t *request);
+
+/* Notes that this call was made. A segment is saved, or dropped, once the folder was flushed for
+ * it. Nothing changes before asm_run_read, with ASM_REST, and after a failure. ASM_EMPTY. */
+FOLUGBEN_NODISCARD int32_t asm_run_done(struct asm_run *run);
+
+/* Notes that this call failed: nothing more is saved or dropped. ASM_EMPTY. */
+FOLUGBEN_NODISCARD int32_t asm_run_failed(struct asm_run *run);
+
+/* Reports what is saved, and writes the digest of the last segment, 64 digits; zeros without a
+ * segment. Before asm_run_read nothing is. ASM_EMPTY, ASM_SMALL (the numbers are set). */
+FOLUGBEN_NODISCARD int32_t asm_run_saved(struct asm_run *run, asm_run_numbers *saved, uint8_t *out,
+    size_t room, size_t *written);
 
 /* Writes the state [PAIR, ..] that the moves of a journal leave, with its locations in ascending
  * order; the journal isn't checked. ASM_NOT_JSON, ASM_SHAPE: `*line` is the number of the line,

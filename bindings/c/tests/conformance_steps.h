@@ -136,6 +136,22 @@ static int32_t count(bool is_size, bool is_has) {
     return code;
 }
 
+/* What the step asks of a function without listing it. */
+static int32_t count_function(bool is_any) {
+    struct word *name = text(1);
+    uint32_t any = 9;
+    uint64_t found = 9;
+    int32_t code = is_any ? asm_any(agent(0), step(0), BYTES(*name), &any) : asm_count(agent(0), step(0), BYTES(*name), &found);
+    if (code != ASM_DONE && (is_any ? any : found))
+        fail("the count of a refused call");
+    if (code != ASM_DONE)
+        return code;
+    if (!is_any)
+        return write_number(found);
+    reply(any ? "true" : "false");
+    return code;
+}
+
 static int32_t at_prepared(bool gets) {
     asm_value value = {9, 9};
     struct asm_location at = {0};
@@ -174,6 +190,7 @@ static int32_t of_step(const char *call) {
         struct word *name = text(1);
         return WRITES(asm_step_scan(agent(0), step(0), BYTES(*name), OUT));
     }
+    if (IS("any") || IS("count")) return count_function(IS("any"));
     if (IS("has")) return count(false, true);
     if (IS("count_of")) return count(false, false);
     if (IS("size")) return count(true, false);

@@ -172,6 +172,30 @@ static size_t open_function(struct asm_storage *storage, struct asm_agent *agent
     return it.length;
 }
 
+/* The number of the function's locations, and whether there is one, as seen through the step. */
+static void counts(struct asm_agent *agent, struct asm_step *step, const char *name, size_t wanted) {
+    uint64_t count;
+    uint32_t any;
+    REQUIRE(asm_count(agent, step, bytes(name), strlen(name), &count) == ASM_DONE && count == wanted);
+    REQUIRE(asm_any(agent, step, bytes(name), strlen(name), &any) == ASM_DONE &&
+            any == (wanted > 0));
+}
+
+/* The functions are counted without a step's own moves, and with one that removes a location. */
+static void count_functions(struct asm_agent *agent, size_t count) {
+    struct asm_step step = {0};
+    uint32_t number;
+    size_t written;
+    REQUIRE(asm_begin(agent, &step, &number) == ASM_DONE);
+    counts(agent, &step, "f", count);
+    counts(agent, &step, "g", count);
+    REQUIRE(asm_push(agent, &step, TEXT("[[\"put\",[\"f\",0],null],[\"put\",[\"g\",-1],1]]"), NULL, 0,
+                     &written) == ASM_DONE);
+    counts(agent, &step, "f", count ? count - 1 : 0);
+    counts(agent, &step, "g", count + 1);
+    asm_free_step(&step);
+}
+
 /* The functions of a state are reported, for values of the opening state and of moves. */
 static void write_functions(size_t count) {
     struct asm_storage storage = {0};
@@ -181,6 +205,7 @@ static void write_functions(size_t count) {
     write_all(&agents[0], "f", count / 2);
     REQUIRE(followed(&agents[1]) == followed(&agents[0]));
     write_names(&agents[1], count, length);
+    count_functions(&agents[1], count);
     for (size_t i = 0; i < 2; i++)
         asm_free_agent(&agents[i]);
     asm_free_storage(&storage);
@@ -219,6 +244,9 @@ static void play_step(size_t count) {
     grow(&agents[0], &step, false, inc, "f", count < TWICE ? count : TWICE);
     REQUIRE(count_values(&agents[0], &step, "f") == length &&
             count_values(&agents[0], &step, "g") == length);
+    counts(&agents[0], &step, "f", count);
+    counts(&agents[0], &step, "g", count);
+    counts(&agents[0], &step, "none", 0);
     REQUIRE(asm_pop_move(&step, &move) == ASM_DONE && asm_depth(&step) == 0);
     REQUIRE(asm_push_move(&agents[0], &step, &move, NULL, 0, &written) == ASM_DONE);
     REQUIRE(asm_commit(&agents[0], &step, &numbers) == ASM_DONE && numbers.fired == 1);

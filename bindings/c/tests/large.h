@@ -16,8 +16,8 @@
 enum { SIZES = 3 };
 
 /* How a cost may grow with the size: by the digits of a number; by what a deeper tree takes; or as
- * the size does. */
-typedef enum growth { SAME, LEVEL, LINEAR } growth;
+ * the size does, or so in time alone, as a walk that makes nothing. */
+typedef enum growth { SAME, LEVEL, WALK, LINEAR } growth;
 
 /* What a deeper tree takes, and what each further item may take of a LINEAR cost that was small. */
 enum { DIGITS = 64, DEEPER_ALLOCATIONS = 16, DEEPER_BYTES = 16384 };
@@ -259,8 +259,8 @@ static inline bool is_within(double few, double many, double times, double more)
 /* Returns whether the costs with many items are those with few, as they may have grown. */
 static inline bool has_grown_well(growth growth, cost few, cost many, size_t count, size_t larger) {
     double ratio = (double)larger / (double)count;
-    double times = growth == LINEAR ? 2 * ratio : 1, longer = growth == LINEAR ? ratio : 1;
-    double items = growth == LINEAR ? (double)larger : 0, depth = growth != SAME;
+    double times = growth == LINEAR ? 2 * ratio : 1, longer = growth >= WALK ? ratio : 1;
+    double items = growth == LINEAR ? (double)larger : 0, depth = growth == LEVEL || growth == LINEAR;
     double allocations = depth * DEEPER_ALLOCATIONS + items * ITEM_ALLOCATIONS;
     double size = DIGITS + depth * DEEPER_BYTES + items * ITEM_BYTES;
     return is_within((double)few.allocations, (double)many.allocations, times, allocations) &&
@@ -270,7 +270,7 @@ static inline bool has_grown_well(growth growth, cost few, cost many, size_t cou
 }
 
 static inline void print_costs(const call *row, const cost *usual) {
-    static const char *const growths[] = {"the same", "level", "linear"};
+    static const char *const growths[] = {"the same", "level", "a walk", "linear"};
     fprintf(stderr, "%s, %s: %s\n", row->held, growths[row->growth], row->text);
     for (unsigned i = 0; i < SIZES; i++)
         if (row->rounds[i])

@@ -224,6 +224,47 @@ static void call_on_segments(size_t count) {
     end_all();
 }
 
+/* A run that saves, reads and drops so many segments. */
+static void call_on_run(size_t count) {
+    struct asm_run run = {0}, reader = {0};
+    asm_audit_numbers read;
+    asm_segment found;
+    uint8_t name[256];
+    uint64_t dropped;
+    size_t len;
+    open_counter(1, 1);
+    REQUIRE(asm_run_open(&run) == ASM_DONE && asm_run_read(&run) == ASM_DONE);
+    REQUIRE(asm_run_open(&reader) == ASM_DONE);
+    for (size_t i = 0; i <= count; i++) {
+        REQUIRE(!i || asm_try_fire(&agents[0], TEXT(increment), &numbers) == ASM_DONE);
+        REQUIRE(asm_give(&storage, &agents[0]) == ASM_DONE);
+        REQUIRE(asm_close(&storage, &number) == ASM_DONE);
+        REQUIRE(asm_journal(&storage, SAID) == ASM_DONE);
+        DOES(SAME, asm_run_hand(&run, i > 0, i > 0, said, length, name, sizeof name, &len));
+        for (unsigned k = 0; k < 6; k++)
+            DOES(SAME, asm_run_done(&run));
+        DOES(SAME, asm_run_name(&reader, name, len, length, &found));
+        DOES(SAME, asm_run_text(&reader, said, length));
+        DOES(SAME, asm_run_end(&reader, &read));
+        REQUIRE(asm_next(&storage, 1, &next) == ASM_DONE);
+        asm_free_storage(&storage);
+        storage = next;
+        next = (struct asm_storage){0};
+        REQUIRE(asm_agent(&storage, 0, &agents[0]) == ASM_DONE);
+    }
+    REQUIRE(read.parts == count + 1 && read.calls == count && read.moves == count);
+    SAYS(LEVEL, with("[[['n'],%zu]]", count, 0), asm_run_state(&reader, SAID));
+    DOES(SAME, asm_run_read(&reader));
+    for (size_t i = 0; i < count; i++) {
+        DOES(SAME, asm_run_drop(&reader, &dropped));
+        REQUIRE(dropped == i && asm_run_done(&reader) == ASM_DONE);
+        REQUIRE(asm_run_done(&reader) == ASM_DONE);
+    }
+    asm_free_run(&run);
+    asm_free_run(&reader);
+    end_all();
+}
+
 int main(int argc, char **argv) {
     static const size_t moves[SIZES] = {10, 1000, 1000000}, full[SIZES] = {10, 1000, 300000};
     static const size_t receipts[SIZES] = {10, 1000, 2100000}, makers[SIZES] = {2, 16, 256};
@@ -234,5 +275,6 @@ int main(int argc, char **argv) {
     at_each_size("receipts", receipts, call_beside_receipts);
     at_each_size("agents", makers, call_on_agents);
     at_each_size("segments", segments, call_on_segments);
+    at_each_size("segments of a run", segments, call_on_run);
     return compare_costs();
 }

@@ -9,7 +9,8 @@ static struct asm_location place;
 static struct asm_move move;
 static asm_numbers numbers;
 static asm_value value;
-static uint32_t number;
+static uint32_t number, any;
+static uint64_t found;
 
 static void end_all(void) {
     for (size_t i = 0; i < sizeof agents / sizeof *agents; i++)
@@ -62,6 +63,25 @@ static void call_agents(void) {
     DOES(LEVEL, asm_take(&storage, 2, &agents[2]));
 }
 
+/* Functions are asked for a value: of the opening state, of moves, of pushed moves, and without any. */
+static void ask_functions(void) {
+    REQUIRE(asm_begin(&agents[0], &step, &number) == ASM_DONE);
+    SAYS(LEVEL, "", asm_push(&agents[0], &step, TEXT("[['put',['f',1],null],['put',['own'],1]]"), SAID));
+    DOES(LEVEL, asm_any(&agents[0], &step, bytes("f"), 1, &any));
+    REQUIRE(any == 1);
+    DOES(LEVEL, asm_any(&agents[0], &step, bytes("g"), 1, &any));
+    REQUIRE(any == 1);
+    DOES(LEVEL, asm_any(&agents[0], &step, bytes("m"), 1, &any));
+    REQUIRE(any == 1);
+    DOES(LEVEL, asm_any(&agents[0], &step, bytes("own"), 3, &any));
+    REQUIRE(any == 1);
+    DOES(LEVEL, asm_any(&agents[0], &step, bytes("h"), 1, &any));
+    REQUIRE(any == 0);
+    DOES(LEVEL, asm_count(&agents[0], &step, bytes("m"), 1, &found));
+    REQUIRE(found == 1);
+    asm_free_step(&step);
+}
+
 /* A step with every call on it. */
 static void call_step(void) {
     DOES(LEVEL, asm_begin(&agents[0], &step, &number));
@@ -92,22 +112,26 @@ static void call_step(void) {
 }
 
 /* The calls that write all of a state, or of a function of it. */
-static void call_all(size_t count) {
-    text places = list_of(",['f',%zu]", count), state = {0},
-         function = list_of(",[['f',%zu],1]", count);
+static void call_all(size_t many) {
+    text places = list_of(",['f',%zu]", many), state = {0},
+         function = list_of(",[['f',%zu],1]", many);
     append(&state, "[", 0);
-    append_all(&state, ",[['f',%zu],1]", 0, count);
-    append_all(&state, ",[['g',%zu],1]", 0, count);
+    append_all(&state, ",[['f',%zu],1]", 0, many);
+    append_all(&state, ",[['g',%zu],1]", 0, many);
     append(&state, ",[['m',0],1]]", 0);
     DOES(LINEAR, asm_follow(&agents[0], &number));
-    FILLS(LINEAR, strlen(with("{'number':%zu,'values':[]}", number, 0)) + 2 * count - 1,
+    FILLS(LINEAR, strlen(with("{'number':%zu,'values':[]}", number, 0)) + 2 * many - 1,
           asm_peek(&agents[0], OF(places), SAID));
     SHOWS(LINEAR, state, asm_state(&agents[0], &number, SAID));
     SHOWS(LINEAR, function, asm_scan(&agents[0], bytes("f"), 1, &number, SAID));
     DOES(LINEAR, asm_begin(&agents[0], &step, &number));
-    FILLS(LINEAR, strlen(with("{'number':%zu,'values':[]}", number, 0)) + 2 * count - 1,
+    FILLS(LINEAR, strlen(with("{'number':%zu,'values':[]}", number, 0)) + 2 * many - 1,
           asm_see(&agents[0], &step, OF(places), SAID));
     SHOWS(LINEAR, function, asm_step_scan(&agents[0], &step, bytes("f"), 1, SAID));
+    DOES(WALK, asm_count(&agents[0], &step, bytes("f"), 1, &found));
+    REQUIRE(found == many);
+    DOES(WALK, asm_count(&agents[0], &step, bytes("g"), 1, &found));
+    REQUIRE(found == many);
     asm_free_step(&step);
     free(places.at);
     free(function.at);
@@ -157,6 +181,7 @@ static void call_on_locations(size_t count) {
     for (unsigned i = 0; i < ROUNDS; i++) {
         call_agents();
         call_step();
+        ask_functions();
     }
     call_all(count);
     close_all();

@@ -125,6 +125,16 @@ static void push(const char *move, const char *left) {
     is_unchanged();
 }
 
+/* A function is asked for a value, and counted. */
+static void functions(void) {
+    uint32_t any;
+    uint64_t count;
+    REQUIRE(ON_STEP(asm_any(&agents[0], &step, TEXT("y"), &any)) == ASM_DONE && any == 1);
+    REQUIRE(ON_STEP(asm_any(&agents[0], &step, TEXT("none"), &any)) == ASM_DONE && any == 0);
+    REQUIRE(ON_STEP(asm_count(&agents[0], &step, TEXT("x"), &count)) == ASM_DONE && count == 1);
+    REQUIRE(ON_STEP(asm_count(&agents[0], &step, TEXT("no name"), &count)) == ASM_DONE && count == 0);
+}
+
 static void run_step(void) {
     const char *bad = "[['add',['x'],1]]", *more = "[['inc',['x'],2],['put',['y'],'why']]";
     uint8_t out[ROOM];
@@ -145,6 +155,7 @@ static void run_step(void) {
     REQUIRE(ON_STEP(asm_step_scan(&agents[0], &step, TEXT("y"), out, sizeof out, &written)) ==
             ASM_DONE);
     REQUIRE(has(out, written, "[[['y'],'why']]"));
+    functions();
     REQUIRE(ON_STEP(asm_see(&agents[0], &step, TEXT("[['y']]"), out, sizeof out, &written)) ==
             ASM_DONE);
     REQUIRE(has(out, written, "{'number':1,'values':['why']}"));
@@ -405,6 +416,42 @@ static void continue_from_agent(const char *left) {
     asm_free_storage(&next);
 }
 
+/* A journal is saved as a segment and read again: another run reads a text for which there was no
+ * memory. */
+static void save_and_read(void) {
+    uint8_t journal[ROOM], name[ROOM], out[ROOM];
+    struct asm_storage of = {0};
+    struct asm_run run = {0};
+    asm_segment found;
+    asm_audit_numbers read;
+    size_t len, size, written;
+    uint32_t number;
+    int32_t request = ASM_REST;
+    REQUIRE(AGAIN(asm_open(TEXT("[[['x'],7]]"), 8, &of)) == ASM_DONE);
+    REQUIRE(AGAIN(asm_close(&of, &number)) == ASM_DONE);
+    REQUIRE(AGAIN(asm_journal(&of, journal, sizeof journal, &len)) == ASM_DONE);
+    REQUIRE(AGAIN(asm_run_open(&run)) == ASM_DONE && AGAIN(asm_run_read(&run)) == ASM_DONE);
+    if (again(asm_run_hand(&run, 0, 0, journal, len, name, sizeof name, &size))) {
+        REQUIRE(asm_run_request(&run, &request) == ASM_DONE && request == ASM_REST);
+        last_code = asm_run_hand(&run, 0, 0, journal, len, name, sizeof name, &size);
+    }
+    REQUIRE(last_code == ASM_DONE);
+    for (int i = 0; i < 6; i++)
+        REQUIRE(asm_run_done(&run) == ASM_DONE);
+    REQUIRE(asm_run_request(&run, &request) == ASM_DONE && request == ASM_REST);
+    do {
+        asm_free_run(&run);
+        REQUIRE(AGAIN(asm_run_open(&run)) == ASM_DONE);
+        REQUIRE(AGAIN(asm_run_name(&run, name, size, len, &found)) == ASM_DONE);
+        REQUIRE(asm_run_text(&run, journal, len) == ASM_DONE);
+    } while (again(asm_run_end(&run, &read)));
+    REQUIRE(last_code == ASM_DONE && read.parts == 1);
+    REQUIRE(AGAIN(asm_run_state(&run, out, sizeof out, &written)) == ASM_DONE);
+    REQUIRE(has(out, written, "[[['x'],7]]"));
+    asm_free_run(&run);
+    asm_free_storage(&of);
+}
+
 /* A commit that records and had no memory fired nothing: it is repeated. The read's receipt may
  * be there from before, so the journal isn't printed; it has the read once or twice, and the
  * fire once. */
@@ -454,6 +501,7 @@ int main(int argc, char **argv) {
     continue_from_agent(left);
     continue_after_full();
     record();
+    save_and_read();
     if (argc > 1)
         printf("%s %u\n", argv[1], refused);
     return 0;

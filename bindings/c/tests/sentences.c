@@ -2,7 +2,7 @@
  * and of what each code means. */
 #include "tests.h"
 
-/* The bytes are this text, and one byte of room less is too little. */
+/* The call writes this text; with a byte of room less, and without room, it writes nothing and returns the length. */
 #define SAYS(wanted, call)                                                                         \
     do {                                                                                           \
         size_t length = strlen(wanted), room = length, written = 9;                                \
@@ -10,20 +10,58 @@
         int32_t code = (call);                                                                     \
         answers_with(code, ASM_DONE, (wanted), out, written, __FILE__, __LINE__);                  \
         free(out);                                                                                 \
-        out = buffer_of(room = length ? length - 1 : 0);                                           \
-        REQUIRE(length == 0 || ((call) == ASM_SMALL && written == length));                        \
-        REQUIRE(is_untouched(out, room));                                                          \
-        free(out);                                                                                 \
+        for (int without = 0; length && without < 2; without++) {                                  \
+            out = buffer_of(room = without ? 0 : length - 1);                                      \
+            written = 9;                                                                           \
+            REQUIRE((call) == ASM_SMALL && written == length && is_untouched(out, room));          \
+            free(out);                                                                             \
+        }                                                                                          \
     } while (0)
 
 static void explained(int32_t form, const char *text, const char *said) {
     SAYS(said, asm_explain(form, bytes(text), strlen(text), OUT));
 }
 
+/* Of each form a text that is accepted, and texts that are cut off, that are no JSON, that have another shape, and with a fault
+ * in a part. */
+static const struct {
+    int32_t form;
+    const char *text, *said;
+} sentences_of_forms[] = {
+    {ASM_FORM_LOCATIONS, "[['x']]", ""},
+    {ASM_FORM_LOCATIONS, "[['x'],", "not JSON: cut off after byte 7"},
+    {ASM_FORM_LOCATIONS, "[['x'],]", "not JSON at byte 8"},
+    {ASM_FORM_LOCATIONS, "{}", "the locations are an array"},
+    {ASM_FORM_LOCATIONS, "[7]", "location 1: a location is an array of a name and at most 8 arguments"},
+    {ASM_FORM_MOVE, "{'fire':[['put',['x'],1]],'reads':[]}", ""},
+    {ASM_FORM_MOVE, "{'fire':[['put',['x'],1]]", "not JSON: cut off after byte 25"},
+    {ASM_FORM_MOVE, "[['x'],]", "not JSON at byte 8"},
+    {ASM_FORM_MOVE, "[]", "a move is an object with the members fire and reads"},
+    {ASM_FORM_MOVE, "{'fire':[['put',['x'],1]],'reads':[7]}", "read 1: a read is an array of a location and a number"},
+    {ASM_FORM_STATE, "[[['x'],1]]", ""},
+    {ASM_FORM_STATE, "", "not JSON: cut off after byte 0"},
+    {ASM_FORM_STATE, "[['x'],]", "not JSON at byte 8"},
+    {ASM_FORM_STATE, "{}", "a state is an array of pairs"},
+    {ASM_FORM_STATE, "[[['x'],1],[['x'],2]]", "a location stands twice"},
+    {ASM_FORM_STATE, "[7]", "pair 1: a pair is an array of a location and its value"},
+    {ASM_FORM_EVENT, "{'agent':0,'call':{'read':[]},'reply':{'number':0,'values':[]}}", ""},
+    {ASM_FORM_EVENT, "[", "not JSON: cut off after byte 1"},
+    {ASM_FORM_EVENT, "[1,\n2,\n}", "not JSON at byte 8"},
+    {ASM_FORM_EVENT, "{}", "an event is an object with the members agent, call and reply"},
+    {ASM_FORM_EVENT, "{'agent':0,'call':{'read':[7]},'reply':{'number':0,'values':[]}}",
+     "location 1: a location is an array of a name and at most 8 arguments"},
+    {ASM_FORM_SCRIPT, "{'agents':[],'init':[]}", ""},
+    {ASM_FORM_SCRIPT, "{\n'agents'", "not JSON: cut off after byte 10, in line 2"},
+    {ASM_FORM_SCRIPT, "[1,\n2,\n}", "not JSON at byte 8, in line 3"},
+    {ASM_FORM_SCRIPT, "[]", "a script is an object with the members agents and init"},
+    {ASM_FORM_SCRIPT, "{'agents':7,'init':[]}", "the agents are an array"},
+    {ASM_FORM_SCRIPT, "{'agents':[],'init':[[['x'],1],[['x'],2]]}", "init pair 1: its location stands twice"},
+};
+
 static void sentences(void) {
     static char text[32 * LONGEST];
-    explained(ASM_FORM_LOCATIONS, "[[\"x\"]]", "");
-    explained(ASM_FORM_LOCATIONS, "[[\"x\"],", "not JSON: cut off after byte 7");
+    for (size_t i = 0; i < sizeof sentences_of_forms / sizeof *sentences_of_forms; i++)
+        explained(sentences_of_forms[i].form, json(sentences_of_forms[i].text), sentences_of_forms[i].said);
     explained(ASM_FORM_LOCATIONS,
               json("[['x',{'list':[{'list':[{'list':[{'list':[{'list':[{'list':[{'list':[{'list':[{'list':[]}"
                    "]}]}]}]}]}]}]}]}]]"),
@@ -90,7 +128,16 @@ static const struct meaning {
     {ASM_MANY_CALLS, "more than the 4,294,967,295 calls of a journal"},
     {ASM_LONG_LINE, "a line of more than 1,073,741,824 bytes"},
     {ASM_LONG_MOVE, "a move of more than 4,096 instructions"},
-    {36, "no code of this library"},
+    {ASM_NAME, "not the name of a segment"},
+    {ASM_ORDER, "another call comes next"},
+    {ASM_NOT_NEXT, "not the number of the next segment"},
+    {ASM_OPENING, "segment 0 has events, or something before it"},
+    {ASM_PREVIOUS, "not the segment after the one before it"},
+    {ASM_DAMAGED, "not the text that was saved"},
+    {ASM_COUNTS, "a segment has other counts than its name says"},
+    {ASM_LONG_RUN, "100,000,000 segments, or 2^64 moves or more"},
+    {ASM_ONE_SEGMENT, "the only segment of a run is not dropped"},
+    {45, "no code of this library"},
     {-1, "no code of this library"},
 };
 
@@ -100,8 +147,8 @@ static void texts_of_codes(void) {
     REQUIRE(asm_version() == FOLUGBEN_VERSION);
     for (size_t i = 0; i < sizeof meanings / sizeof *meanings; i++)
         SAYS(meanings[i].said, asm_error_text(meanings[i].code, OUT));
-    for (int32_t code = -2; code < 40; code++) {
-        bool known = code >= ASM_DONE && code <= ASM_LONG_MOVE;
+    for (int32_t code = -2; code < 50; code++) {
+        bool known = code >= ASM_DONE && code <= ASM_ONE_SEGMENT;
         REQUIRE(asm_error_text(code, out, sizeof out, &written) == ASM_DONE && written > 0);
         REQUIRE(known == !(written == 23 && !memcmp(out, "no code of this library", 23)));
     }

@@ -3,7 +3,7 @@ ghost use Rattle.std.specs.Prelude.{◌≡◌, ◌⊎◌};
 ghost use Rattle.asm_slots.specs.Answers.{EmptyOr, IsMemory};
 ghost use Rattle.asm_slots.specs.Audits.{Audits, EndsAudit, HasNoState, IsAuditState};
 ghost use Rattle.asm_slots.specs.Codes.{Replies};
-ghost use Rattle.asm_slots.specs.Slots.{HoldsAudit, HoldsNoAudit, content_of};
+ghost use Rattle.asm_slots.specs.Slots.{Holds, Lacks, an_audit, content_of};
 ghost use Rattle.asm_slots.specs.WrittenText.{WritesText};
 ghost use Rattle.asm_slots.specs.declared.codes.Code.TheVariants as variant;
 
@@ -74,9 +74,9 @@ pub extern "C" fn asm_audit_state(
     out: &mut [u8],
     written: &mut usize,
 ) -> i32
-    ensures text { WritesText (λ text. HoldsAudit (content_of audit.old) (λ a. IsAuditState a text))
-        (EmptyOr (HoldsNoAudit (content_of audit.old))
-        (λ c. IsMemory c ⊎ ((c ≡ variant.NoPart) × HoldsAudit (content_of audit.old) HasNoState)))
+    ensures text { WritesText (λ text. Holds an_audit (content_of audit.old) (λ a. IsAuditState a text))
+        (EmptyOr (Lacks an_audit (content_of audit.old))
+        (λ c. IsMemory c ⊎ ((c ≡ variant.NoPart) × Holds an_audit (content_of audit.old) HasNoState)))
         out.old out.new written.new result }
     ensures kept { content_of audit.new ≡ content_of audit.old }
 {

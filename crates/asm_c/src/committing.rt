@@ -3,7 +3,7 @@ ghost use Rattle.std.specs.Prelude.{◌≡◌, MatchResult, None};
 ghost use Rattle.asm_slots.specs.Answers.{EmptyOr, IsMemory};
 ghost use Rattle.asm_slots.specs.Codes.{Replies};
 ghost use Rattle.asm_slots.specs.Commit.{CommitsIn, HasCommitted, HasCommittedRecorded, HasFiredOnce, IsOfferText};
-ghost use Rattle.asm_slots.specs.Slots.{HoldsNoStep, HoldsStep, content_of};
+ghost use Rattle.asm_slots.specs.Slots.{Holds, Lacks, a_step, content_of};
 ghost use Rattle.asm_slots.specs.WrittenText.{WritesText};
 
 use asm_slots::committing::{commit, commit_recorded, offer};
@@ -87,8 +87,8 @@ pub extern "C" fn asm_offer(
     out: &mut [u8],
     written: &mut usize,
 ) -> i32
-    ensures text { WritesText (λ text. HoldsStep (content_of step.old) (λ s. IsOfferText s text))
-        (EmptyOr (HoldsNoStep (content_of step.old)) IsMemory) out.old out.new written.new result }
+    ensures text { WritesText (λ text. Holds a_step (content_of step.old) (λ s. IsOfferText s text))
+        (EmptyOr (Lacks a_step (content_of step.old)) IsMemory) out.old out.new written.new result }
     ensures kept { content_of step.new ≡ content_of step.old }
 {
     answer(offer(alloc, step, out, written))

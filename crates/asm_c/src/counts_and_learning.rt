@@ -4,7 +4,7 @@ ghost use Rattle.asm_slots.specs.AgentCalls.{Learns};
 ghost use Rattle.asm_slots.specs.Answers.{AreNotTwo};
 ghost use Rattle.asm_slots.specs.Codes.{ASM_DONE, Answers};
 ghost use Rattle.asm_slots.specs.OwnState.{TakesState};
-ghost use Rattle.asm_slots.specs.Slots.{AreOfOneStorage, HoldsNoAgent, IfHolds, content_of};
+ghost use Rattle.asm_slots.specs.Slots.{AreOfOneStorage, IfHolds, Lacks, an_agent, content_of};
 
 use asm_slots::learning::{learn, take_state};
 use asm_slots::{Slot, answer, lend};
@@ -14,8 +14,8 @@ use std::alloc::Global;
 #[unsafe(no_mangle)]
 pub extern "C" fn asm_seen(alloc: Global, agent: &mut Slot) -> u32
     ensures kept { content_of agent.new ≡ content_of agent.old }
-    ensures value { IfHolds (content_of agent.old) (λ a. result ≡ length a.account.seen) }
-    ensures none { HoldsNoAgent (content_of agent.old) → result ≡ 0 }
+    ensures value { IfHolds an_agent (content_of agent.old) (λ a. result ≡ length a.account.seen) }
+    ensures none { Lacks an_agent (content_of agent.old) → result ≡ 0 }
 {
     lend!(inner: Agent = agent, 0);
     inner.seen()
@@ -25,8 +25,8 @@ pub extern "C" fn asm_seen(alloc: Global, agent: &mut Slot) -> u32
 #[unsafe(no_mangle)]
 pub extern "C" fn asm_won(alloc: Global, agent: &mut Slot) -> u32
     ensures kept { content_of agent.new ≡ content_of agent.old }
-    ensures value { IfHolds (content_of agent.old) (λ a. result ≡ a.account.won) }
-    ensures none { HoldsNoAgent (content_of agent.old) → result ≡ 0 }
+    ensures value { IfHolds an_agent (content_of agent.old) (λ a. result ≡ a.account.won) }
+    ensures none { Lacks an_agent (content_of agent.old) → result ≡ 0 }
 {
     lend!(inner: Agent = agent, 0);
     inner.won()
@@ -37,8 +37,8 @@ pub extern "C" fn asm_won(alloc: Global, agent: &mut Slot) -> u32
 #[unsafe(no_mangle)]
 pub extern "C" fn asm_misses(alloc: Global, agent: &mut Slot) -> u64
     ensures kept { content_of agent.new ≡ content_of agent.old }
-    ensures value { IfHolds (content_of agent.old) (λ a. result ≡ a.misses) }
-    ensures none { HoldsNoAgent (content_of agent.old) → result ≡ 0 }
+    ensures value { IfHolds an_agent (content_of agent.old) (λ a. result ≡ a.misses) }
+    ensures none { Lacks an_agent (content_of agent.old) → result ≡ 0 }
 {
     lend!(inner: Agent = agent, 0);
     inner.misses()

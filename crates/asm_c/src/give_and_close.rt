@@ -1,11 +1,11 @@
 //! Counting a storage's moves, returning agents, closing them into a journal, and its text.
 ghost use Rattle.std.specs.Prelude.{◌≡◌, ◌≢◌, ◌≤◌, length, None, Some};
-ghost use Rattle.asm_slots.specs.AgentCalls.{Closes, Gives};
+ghost use Rattle.asm_slots.specs.AgentCalls.{Gives, HasClosed};
 ghost use Rattle.asm_slots.specs.Answers.{EmptyOr};
 ghost use Rattle.asm_slots.specs.ClosedStore.{IsNotClosed};
 ghost use Rattle.asm_slots.specs.Codes.{ASM_DONE, Answers};
 ghost use Rattle.asm_slots.specs.MadeAgents.{IsNotGiven};
-ghost use Rattle.asm_slots.specs.Slots.{HoldsNoStore, HoldsStore, IsOfStore, content_of};
+ghost use Rattle.asm_slots.specs.Slots.{Changes, Holds, IsOfStore, Lacks, a_store, content_of};
 ghost use Rattle.asm_slots.specs.WrittenText.{WritesText};
 ghost use Rattle.asm_slots.specs.declared.codes.Code.TheVariants as variant;
 
@@ -22,8 +22,8 @@ use std::alloc::Global;
 /// - `ASM_EMPTY`: the slot has no storage, and `moves` is 0.
 #[unsafe(no_mangle)]
 pub extern "C" fn asm_moves(alloc: Global, store: &mut Slot, moves: &mut u32) -> i32
-    ensures counted { Answers result (HoldsStore (content_of store.old) (λ s. moves.new ≤ length s.storage.row))
-        (λ c. (c ≡ variant.Empty) × HoldsNoStore (content_of store.old) × (moves.new ≡ 0)) }
+    ensures counted { Answers result (Holds a_store (content_of store.old) (λ s. moves.new ≤ length s.storage.row))
+        (λ c. (c ≡ variant.Empty) × Lacks a_store (content_of store.old) × (moves.new ≡ 0)) }
     ensures kept { content_of store.new ≡ content_of store.old }
 {
     answer(moves_of(store, moves))
@@ -68,7 +68,7 @@ pub extern "C" fn asm_give(alloc: Global, store: &mut Slot, agent: &mut Slot) ->
 /// - `ASM_MEMORY`: out of memory.
 #[unsafe(no_mangle)]
 pub extern "C" fn asm_close(alloc: Global, store: &mut Slot, number: &mut u32) -> i32
-    ensures answers { Answers result ((number.new ≡ 0) × Closes (content_of store.old) (content_of store.new))
+    ensures answers { Answers result ((number.new ≡ 0) × Changes a_store (content_of store.old) (content_of store.new) HasClosed)
         (IsNotClosed (content_of store.old) number.new) }
     ensures kept { result ≢ ASM_DONE → content_of store.new ≡ content_of store.old }
 {
@@ -89,9 +89,9 @@ pub extern "C" fn asm_journal(
     out: &mut [u8],
     written: &mut usize,
 ) -> i32
-    ensures text { WritesText (λ text. HoldsStore (content_of store.old) (λ s. s.journal ≡ Some text))
-        (EmptyOr (HoldsNoStore (content_of store.old))
-        (λ c. (c ≡ variant.NoJournal) × HoldsStore (content_of store.old) (λ s. s.journal ≡ None)))
+    ensures text { WritesText (λ text. Holds a_store (content_of store.old) (λ s. s.journal ≡ Some text))
+        (EmptyOr (Lacks a_store (content_of store.old))
+        (λ c. (c ≡ variant.NoJournal) × Holds a_store (content_of store.old) (λ s. s.journal ≡ None)))
         out.old out.new written.new result }
     ensures kept { content_of store.new ≡ content_of store.old }
 {

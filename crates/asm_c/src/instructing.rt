@@ -3,7 +3,7 @@ ghost use Rattle.std.specs.Prelude.{◌≡◌, ◌≢◌, ◌++◌, None};
 ghost use Rattle.asm_slots.specs.Answers.{IsNotInstructed, IsNotPrepared, IsNotUnited};
 ghost use Rattle.asm_slots.specs.Codes.{ASM_DONE, Answers};
 ghost use Rattle.asm_slots.specs.Kinds.{IsInstructed};
-ghost use Rattle.asm_slots.specs.Slots.{HasRoomForMove, HoldsLocation, HoldsMove, content_of, move_of};
+ghost use Rattle.asm_slots.specs.Slots.{HasRoomFor, Holds, a_location, a_move, content_of, move_of};
 ghost use Rattle.asm_slots.specs.Bytes.{ReadAsLocation};
 
 use asm_slots::instructing::{instruct, prepare, unite};
@@ -36,8 +36,8 @@ pub extern "C" fn asm_instruct(
     bytes: &[u8],
     amount: u32,
 ) -> i32
-    ensures answers { Answers result (HasRoomForMove (content_of instrs.old) × HoldsLocation (content_of at.old)
-        (λ l. HoldsMove (content_of instrs.new) (IsInstructed l verb kind number bytes.now amount (move_of (content_of instrs.old)))))
+    ensures answers { Answers result (HasRoomFor a_move (content_of instrs.old) × Holds a_location (content_of at.old)
+        (λ l. Holds a_move (content_of instrs.new) (IsInstructed l verb kind number bytes.now amount (move_of (content_of instrs.old)))))
         (IsNotInstructed (content_of at.old) (content_of instrs.old) verb kind number bytes.now amount) }
     ensures kept { result ≢ ASM_DONE → content_of instrs.new ≡ content_of instrs.old }
     ensures held { content_of at.new ≡ content_of at.old }
@@ -57,8 +57,8 @@ pub extern "C" fn asm_instruct(
 /// - `ASM_MEMORY`: out of memory.
 #[unsafe(no_mangle)]
 pub extern "C" fn asm_unite(alloc: Global, instrs: &mut Slot, other: &mut Slot) -> i32
-    ensures answers { Answers result (HasRoomForMove (content_of instrs.old) × HasRoomForMove (content_of other.old)
-        × HoldsMove (content_of instrs.new) (λ united. united ≡ move_of (content_of instrs.old) ++ move_of (content_of other.old)))
+    ensures answers { Answers result (HasRoomFor a_move (content_of instrs.old) × HasRoomFor a_move (content_of other.old)
+        × Holds a_move (content_of instrs.new) (λ united. united ≡ move_of (content_of instrs.old) ++ move_of (content_of other.old)))
         (IsNotUnited (content_of instrs.old) (content_of other.old)) }
     ensures kept { result ≢ ASM_DONE → content_of instrs.new ≡ content_of instrs.old }
     ensures held { content_of other.new ≡ content_of other.old }
@@ -76,7 +76,7 @@ pub extern "C" fn asm_unite(alloc: Global, instrs: &mut Slot, other: &mut Slot) 
 /// - `ASM_MEMORY`: out of memory.
 #[unsafe(no_mangle)]
 pub extern "C" fn asm_location(alloc: Global, location: &[u8], at: &mut Slot) -> i32
-    ensures answers { Answers result ((content_of at.old ≡ None) × HoldsLocation (content_of at.new) (ReadAsLocation location.now))
+    ensures answers { Answers result ((content_of at.old ≡ None) × Holds a_location (content_of at.new) (ReadAsLocation location.now))
         (IsNotPrepared (content_of at.old) location.now) }
     ensures refused { result ≢ ASM_DONE → content_of at.new ≡ content_of at.old }
 {

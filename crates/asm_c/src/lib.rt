@@ -7,6 +7,7 @@ mod auditing;
 #[tactic(auto, using(asm_slots::proofs::Answered::answers))]
 mod committing;
 #[tactic(auto, using(asm_slots::proofs::Answered::answers))]
+mod counting;
 mod counts_and_learning;
 #[tactic(auto, using(asm_slots::proofs::Answered::answers))]
 mod give_and_close;
@@ -24,5 +25,7 @@ mod own_state;
 mod pushing;
 #[tactic(auto, using(asm_slots::proofs::Answered::answers))]
 mod read_and_fire;
+#[tactic(auto, using(asm_slots::proofs::Answered::answers))]
+mod running;
 #[tactic(auto, using(asm_slots::proofs::Answered::answers))]
 mod steps;

@@ -5,7 +5,7 @@ ghost use Rattle.asm_slots.specs.Answers.{EmptyOr, IsMemory, IsNoName, IsUnreadA
 ghost use Rattle.asm_slots.specs.Bytes.{AreLocations};
 ghost use Rattle.asm_slots.specs.Codes.{ASM_DONE, Answers};
 ghost use Rattle.asm_slots.specs.OwnState.{DoesNotFollow, Follows, IsOwnOfName, IsOwnState, IsPeekOf};
-ghost use Rattle.asm_slots.specs.Slots.{Holds, HoldsNoAgent, content_of};
+ghost use Rattle.asm_slots.specs.Slots.{Holds, Lacks, an_agent, content_of};
 ghost use Rattle.asm_slots.specs.StepAnswers.{DoesNotGetAt, DoesNotPeekAt, GetsAt, IsNoValue, PeeksAt};
 ghost use Rattle.asm_slots.specs.WrittenText.{WritesText};
 
@@ -29,8 +29,8 @@ pub extern "C" fn asm_state(
     out: &mut [u8],
     written: &mut usize,
 ) -> i32
-    ensures text { WritesText (λ text. Holds (content_of agent.old) (λ a. IsOwnState a number.new text))
-        (λ c. (number.new ≡ 0) × EmptyOr (HoldsNoAgent (content_of agent.old)) IsMemory c)
+    ensures text { WritesText (λ text. Holds an_agent (content_of agent.old) (λ a. IsOwnState a number.new text))
+        (λ c. (number.new ≡ 0) × EmptyOr (Lacks an_agent (content_of agent.old)) IsMemory c)
         out.old out.new written.new result }
     ensures kept { content_of agent.new ≡ content_of agent.old }
 {
@@ -57,8 +57,8 @@ pub extern "C" fn asm_scan(
     out: &mut [u8],
     written: &mut usize,
 ) -> i32
-    ensures text { WritesText (λ text. Holds (content_of agent.old) (λ a. IsOwnOfName name.now a number.new text))
-        (λ c. (number.new ≡ 0) × EmptyOr (HoldsNoAgent (content_of agent.old)) (IsNoName name.now) c)
+    ensures text { WritesText (λ text. Holds an_agent (content_of agent.old) (λ a. IsOwnOfName name.now a number.new text))
+        (λ c. (number.new ≡ 0) × EmptyOr (Lacks an_agent (content_of agent.old)) (IsNoName name.now) c)
         out.old out.new written.new result }
     ensures kept { content_of agent.new ≡ content_of agent.old }
 {
@@ -99,8 +99,8 @@ pub extern "C" fn asm_peek(
     out: &mut [u8],
     written: &mut usize,
 ) -> i32
-    ensures text { WritesText (λ text. Holds (content_of agent.old) (λ a. IsPeekOf locations.now a text))
-        (EmptyOr (HoldsNoAgent (content_of agent.old)) (IsUnreadAs AreLocations locations.now))
+    ensures text { WritesText (λ text. Holds an_agent (content_of agent.old) (λ a. IsPeekOf locations.now a text))
+        (EmptyOr (Lacks an_agent (content_of agent.old)) (IsUnreadAs AreLocations locations.now))
         out.old out.new written.new result }
     ensures kept { content_of agent.new ≡ content_of agent.old }
 {

@@ -4,7 +4,7 @@ ghost use Rattle.asm_slots.specs.AgentAnswers.{Fires, FiresOver, IsNotRead, Read
 ghost use Rattle.asm_slots.specs.AgentCalls.{IsLastAnswer};
 ghost use Rattle.asm_slots.specs.Answers.{EmptyOr, IsMemory};
 ghost use Rattle.asm_slots.specs.Codes.{Answers, Replies};
-ghost use Rattle.asm_slots.specs.Slots.{Holds, HoldsNoAgent, content_of};
+ghost use Rattle.asm_slots.specs.Slots.{Holds, Lacks, an_agent, content_of};
 ghost use Rattle.asm_slots.specs.WrittenText.{WritesText};
 ghost use Rattle.asm_slots.specs.declared.codes.Code.TheVariants as variant;
 
@@ -81,9 +81,9 @@ pub extern "C" fn asm_answer(
     out: &mut [u8],
     written: &mut usize,
 ) -> i32
-    ensures text { WritesText (λ text. Holds (content_of agent.old) (λ a. IsLastAnswer a.account.receipts text))
-        (EmptyOr (HoldsNoAgent (content_of agent.old))
-        (λ c. IsMemory c ⊎ ((c ≡ variant.NoAnswer) × Holds (content_of agent.old) (λ a. a.account.receipts ≡ []))))
+    ensures text { WritesText (λ text. Holds an_agent (content_of agent.old) (λ a. IsLastAnswer a.account.receipts text))
+        (EmptyOr (Lacks an_agent (content_of agent.old))
+        (λ c. IsMemory c ⊎ ((c ≡ variant.NoAnswer) × Holds an_agent (content_of agent.old) (λ a. a.account.receipts ≡ []))))
         out.old out.new written.new result }
     ensures kept { content_of agent.new ≡ content_of agent.old }
 {

@@ -4,7 +4,7 @@ ghost use Rattle.asm_slots.specs.Answers.{IsNoName};
 ghost use Rattle.asm_slots.specs.Codes.{ASM_DONE, Answers};
 ghost use Rattle.asm_slots.specs.OwnState.{Begins, DoesNotBegin};
 ghost use Rattle.asm_slots.specs.Popping.{HasPoppedLast, IsNotPoppedIn, IsNotPoppedInto};
-ghost use Rattle.asm_slots.specs.Slots.{ChangesStep, HasRoomForMove, HoldsMove, HoldsNoStep, IfHoldsStep, content_of};
+ghost use Rattle.asm_slots.specs.Slots.{Changes, HasRoomFor, Holds, IfHolds, Lacks, a_move, a_step, content_of};
 ghost use Rattle.asm_slots.specs.StepAnswers.{ShowsBoth, ShowsNoText};
 ghost use Rattle.asm_slots.specs.StepCalls.{HasTrackedBy, IsFoundBy, IsNotGot, IsNotScanned, IsNotSeen, IsSeenBy};
 ghost use Rattle.asm_slots.specs.Standard.{standard};
@@ -46,8 +46,8 @@ pub extern "C" fn asm_begin(
 #[unsafe(no_mangle)]
 pub extern "C" fn asm_depth(alloc: Global, step: &mut Slot) -> u32
     ensures kept { content_of step.new ≡ content_of step.old }
-    ensures value { IfHoldsStep (content_of step.old) (λ s. result ≡ length s.layers) }
-    ensures none { HoldsNoStep (content_of step.old) → result ≡ 0 }
+    ensures value { IfHolds a_step (content_of step.old) (λ s. result ≡ length s.layers) }
+    ensures none { Lacks a_step (content_of step.old) → result ≡ 0 }
 {
     lend!(taken: Step = step, 0);
     taken.depth()
@@ -80,7 +80,7 @@ pub extern "C" fn asm_get(
 ) -> i32
     ensures answers { Answers result
         (ShowsBoth (IsSeenBy locations.now) (content_of agent.old) (content_of step.old) out.old out.new written.new
-        × ChangesStep (content_of step.old) (content_of step.new) (HasTrackedBy locations.now))
+        × Changes a_step (content_of step.old) (content_of step.new) (HasTrackedBy locations.now))
         (ShowsNoText (IsSeenBy locations.now) (IsNotGot locations.now) (content_of agent.old) (content_of step.old)
         out.old out.new written.new) }
     ensures stays { result ≢ ASM_DONE → content_of step.new ≡ content_of step.old }
@@ -126,7 +126,7 @@ pub extern "C" fn asm_see(
 #[unsafe(no_mangle)]
 pub extern "C" fn asm_pop(alloc: Global, step: &mut Slot) -> i32
     ensures answers { Answers result
-        (ChangesStep (content_of step.old) (content_of step.new) HasPoppedLast)
+        (Changes a_step (content_of step.old) (content_of step.new) HasPoppedLast)
         (IsNotPoppedIn (content_of step.old)) }
     ensures kept { result ≢ ASM_DONE → content_of step.new ≡ content_of step.old }
 {
@@ -152,8 +152,8 @@ pub extern "C" fn asm_pop(alloc: Global, step: &mut Slot) -> i32
 /// - `ASM_MEMORY`: out of memory.
 #[unsafe(no_mangle)]
 pub extern "C" fn asm_pop_move(alloc: Global, step: &mut Slot, instrs: &mut Slot) -> i32
-    ensures answers { Answers result (HasRoomForMove (content_of instrs.old)
-        × ChangesStep (content_of step.old) (content_of step.new) (λ s t. HoldsMove (content_of instrs.new)
+    ensures answers { Answers result (HasRoomFor a_move (content_of instrs.old)
+        × Changes a_step (content_of step.old) (content_of step.new) (λ s t. Holds a_move (content_of instrs.new)
         (HasPoppedMove standard s t)))
         (IsNotPoppedInto (content_of step.old) (content_of instrs.old)) }
     ensures kept { result ≢ ASM_DONE → content_of step.new ≡ content_of step.old }
@@ -186,7 +186,7 @@ pub extern "C" fn asm_step_scan(
 ) -> i32
     ensures answers { Answers result
         (ShowsBoth (IsFoundBy name.now) (content_of agent.old) (content_of step.old) out.old out.new written.new
-        × ChangesStep (content_of step.old) (content_of step.new) (HasScanned name.now))
+        × Changes a_step (content_of step.old) (content_of step.new) (HasScanned name.now))
         (ShowsNoText (IsFoundBy name.now) (λ a s c. IsNoName name.now c ⊎ IsNotScanned name.now a s c)
         (content_of agent.old) (content_of step.old) out.old out.new written.new) }
     ensures stays { result ≢ ASM_DONE → content_of step.new ≡ content_of step.old }

@@ -21,6 +21,14 @@ use Rattle.asm_audit.specs.contracts.progress.Progress as Progress
 use Rattle.asm_element.proofs.Crossing.{location_is_sent}
 use Rattle.asm_state.proofs.Crossing as states
 use Rattle.asm_transaction.proofs.Crossing.{transaction_is_sent}
+use Rattle.asm_run.specs.contracts.end.RunEnd as RunEnd
+use Rattle.asm_run.specs.contracts.judge.Judge as Judge
+use Rattle.asm_run.specs.contracts.name.SegmentName as SegmentName
+use Rattle.asm_run.specs.contracts.segment.SegmentReader as SegmentReader
+use Rattle.asm_run.specs.contracts.trail.Place as Place
+use Rattle.asm_run.specs.contracts.reader.RunReader as RunReader
+use Rattle.asm_run.specs.contracts.trail.Trail as Trail
+use Rattle.asm_run.specs.contracts.writer.RunWriter as RunWriter
 use Rattle.asm_slots.specs.contracts.audit.Audit as Audit
 use Rattle.asm_slots.specs.contracts.audit.Audit.TheInside as InsideAudit
 use Rattle.asm_slots.specs.contracts.content.Content as Content
@@ -28,6 +36,8 @@ use Rattle.asm_slots.specs.contracts.closed_journal.ClosedJournal as ClosedJourn
 use Rattle.asm_slots.specs.contracts.closed_journal.ClosedJournal.TheInside as InsideJournal
 use Rattle.asm_slots.specs.contracts.owned_agent.OwnedAgent as OwnedAgent
 use Rattle.asm_slots.specs.contracts.owned_agent.OwnedAgent.TheInside as InsideAgent
+use Rattle.asm_slots.specs.contracts.run.Run as Run
+use Rattle.asm_slots.specs.contracts.run.Run.TheInside as InsideRun
 use Rattle.asm_slots.specs.contracts.shared.Shared as Shared
 use Rattle.asm_slots.specs.contracts.store.Store as Store
 use Rattle.asm_slots.specs.contracts.store.Store.TheInside as InsideStore
@@ -58,7 +68,7 @@ shared_is_shared =
     declared_sync Shared.the_type (standard_storage_is_shared, (count, (as_row_sync (row_field (as_row u32-field)) capacity, tt)))
 
 inside_agent_is_sent : IsSend InsideAgent.the_row
-inside_agent_is_sent = declared_send InsideAgent.the_type (Arc-send Shared.the_row shared_is_sent shared_is_shared, (part_is_sent, tt))
+inside_agent_is_sent = declared_send InsideAgent.the_type (Arc-send Shared.the_row shared_is_sent shared_is_shared, (part_is_sent, (transaction_is_sent, tt)))
 
 agent_is_sent : IsSend OwnedAgent.the_row
 agent_is_sent = search (sendable, inside_agent_is_sent) depth 20
@@ -97,5 +107,41 @@ inside_audit_is_sent = declared_send InsideAudit.the_type (byte_auditor_is_sent,
 audit_is_sent : IsSend Audit.the_row
 audit_is_sent = search (sendable, inside_audit_is_sent) depth 20
 
+judge_is_sent : IsSend (Judge.the_row standard standard_ghosts)
+judge_is_sent =
+    declared_send (Judge.the_type standard standard_ghosts) (byte_auditor_is_sent, (search sendable depth 20, tt))
+
+end_is_sent : IsSend RunEnd.the_row
+end_is_sent = search sendable depth 20
+
+name_is_sent : IsSend SegmentName.the_row
+name_is_sent = search sendable depth 20
+
+place_is_sent : IsSend Place.the_row
+place_is_sent = search sendable depth 20
+
+segment_is_sent : IsSend SegmentReader.the_row
+segment_is_sent =
+    declared_send SegmentReader.the_type
+    (name_is_sent, (end_is_sent, (search sendable depth 20, (search sendable depth 20, (search sendable depth 20, tt)))))
+
+trail_is_sent : IsSend Trail.the_row
+trail_is_sent =
+    declared_send Trail.the_type
+    (place_is_sent, (end_is_sent, (end_is_sent, (end_is_sent, (segment_is_sent, (search sendable depth 20, tt))))))
+
+writer_is_sent : IsSend RunWriter.the_row
+writer_is_sent = search sendable depth 20
+
+reader_is_sent : IsSend (RunReader.the_row standard standard_ghosts)
+reader_is_sent =
+    declared_send (RunReader.the_type standard standard_ghosts) (judge_is_sent, (trail_is_sent, tt))
+
+inside_run_is_sent : IsSend InsideRun.the_row
+inside_run_is_sent = declared_send InsideRun.the_type (reader_is_sent, (writer_is_sent, tt))
+
+run_is_sent : IsSend Run.the_row
+run_is_sent = search (sendable, inside_run_is_sent) depth 20
+
 pub content_is_sent : IsSend Content.the_row
-content_is_sent = search (sendable, agent_is_sent, store_is_sent, transaction_is_sent, location_is_sent, instructions_is_sent, audit_is_sent) depth 20
+content_is_sent = search (sendable, agent_is_sent, store_is_sent, transaction_is_sent, location_is_sent, instructions_is_sent, audit_is_sent, run_is_sent) depth 20

@@ -10,7 +10,7 @@ use Rattle.asm_transaction.specs.Reading.{IsOf}
 use Rattle.asm_transaction.specs.View.{TransactionView, pushed}
 use Rattle.asm_update.specs.Move.{Move}
 use Rattle.asm_slots.specs.Bytes.{ReadAsMove}
-use Rattle.asm_slots.specs.Slots.{HoldBoth, HoldsStep}
+use Rattle.asm_slots.specs.Slots.{HoldBoth, Holds, a_step}
 use Rattle.asm_slots.specs.Standard.{Standard, meaning}
 use Rattle.asm_slots.specs.StepAnswers.{DoesNotGrow, Grows}
 use Rattle.asm_slots.specs.StepCalls.{HasGrown, HasReached, IsGrown, IsNotGrown, IsPushError, grown}
@@ -25,10 +25,10 @@ use Rattle.asm_slots.proofs.OwnStates.{IsOwn}
 -- what holds of an agent and a step, before and after, holds of the slots
 hold_three : (agent step after : Option Content) (a : AgentAt Standard) (s t : TransactionView)
     (P : AgentAt Standard → TransactionView → TransactionView → Type 0) → agent ≡ Some (content.Agent a) → step ≡ Some (content.Step s) →
-    after ≡ Some (content.Step t) → P a s t → HoldBoth agent step (λ b r. HoldsStep after (P b r))
+    after ≡ Some (content.Step t) → P a s t → HoldBoth agent step (λ b r. Holds a_step after (P b r))
 hold_three agent step after a s t P e f g p =
-    subst (λ (x : Option Content). HoldBoth x step (λ b r. HoldsStep after (P b r))) (sym e)
-    (subst (λ (x : Option Content). HoldsStep x (λ r. HoldsStep after (P a r))) (sym f) (subst (λ (x : Option Content). HoldsStep x (P a s)) (sym g) p))
+    subst (λ (x : Option Content). HoldBoth x step (λ b r. Holds a_step after (P b r))) (sym e)
+    (subst (λ (x : Option Content). Holds a_step x (λ r. Holds a_step after (P a r))) (sym f) (subst (λ (x : Option Content). Holds a_step x (P a s)) (sym g) p))
 
 -- a push or an extension over the agent's own state
 module _ (way : PushMode) (a : AgentAt Standard) (s : StateView) (agg : Standard) (old new : TransactionView) (M : Move)

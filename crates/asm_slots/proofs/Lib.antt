@@ -14,5 +14,7 @@ pub mod Meanings
 pub mod Refused
 pub mod Answered
 pub mod WrittenTexts
+pub mod RunAnswers
 pub mod Commits
 pub mod MembersOfSteps
+pub mod CountsOfSteps

@@ -7,22 +7,13 @@ use Rattle.asm_element.specs.declared.value.Value.TheVariants.{Plain, Set, Bag}
 use Rattle.asm_update.specs.Action as action
 use Rattle.asm_update.specs.declared.action.Action.{Action}
 use Rattle.asm_update.specs.declared.action.Action.TheVariants.{Regular, SetAdd, SetRemove, BagAdd, BagRemove, Increment}
-use Rattle.asm_journal.specs.Value.{IsValueForm}
-use Rattle.asm_explain.specs.Bytes.{ReadAs}
-use Rattle.asm_slots.specs.Kinds.{ASM_KIND_BAG, ASM_KIND_BOOL, ASM_KIND_NUM, ASM_KIND_SET, ASM_KIND_TEXT, ASM_KIND_UNDEF}
+use Rattle.asm_slots.specs.Kinds.{ASM_KIND_BAG, ASM_KIND_SET}
 use Rattle.asm_slots.specs.Kinds.{IsAction, IsAmount, IsByJson, IsNoAction, IsOperand, IsTextOrPlain, kind_of, verb_of}
 use Rattle.asm_slots.specs.Kinds.{CannotTake, IsActionOn, IsVerb}
 use Rattle.asm_slots.specs.declared.operands.Verb.{Verb}
 use Rattle.asm_slots.specs.declared.operands.Verb.TheVariants as verbs
 
 -- ---- kinds
-
--- a kind whose bytes are JSON is not that of undef, a truth value, a number or a text
-distinct : (k : ℤ) → IsByJson k →
-    (k ≢ ASM_KIND_UNDEF) × (k ≢ ASM_KIND_BOOL) × (k ≢ ASM_KIND_NUM) × (k ≢ ASM_KIND_TEXT)
-distinct k (inl is) = (λ other. cc, λ other. cc, λ other. cc, λ other. cc)
-distinct k (inr (inl is)) = (λ other. cc, λ other. cc, λ other. cc, λ other. cc)
-distinct k (inr (inr is)) = (λ other. cc, λ other. cc, λ other. cc, λ other. cc)
 
 -- an operand is of its kind
 kind_reported : (k n : ℤ) (bs : List ℕ) (v : Value) → IsOperand k n bs v → k ≡ kind_of v
@@ -44,13 +35,6 @@ no_element k (Inner ds) is = (λ other. cc, λ other. cc)
 
 -- ---- elements
 
-pub reported_means : (k n : ℤ) (bs : List ℕ) (e : Element) → IsTextOrPlain k n bs e → IsOperand k n bs (Plain e)
-reported_means k n bs Undef h = h.0
-reported_means k n bs (Truth b) h = h.0
-reported_means k n bs (Num m) h = h.0
-reported_means k n bs (Text s) h = h.0
-reported_means k n bs (Inner ds) h = absurd (h.1 h.0.0)
-
 -- if these are no element and the kind isn't one of JSON, nothing is meant
 pub none_means : (k n : ℤ) (bs : List ℕ) → ¬ IsByJson k → ((e : Element) → ¬ IsTextOrPlain k n bs e) → (v : Value) → ¬ IsOperand k n bs v
 none_means k n bs other none (Plain Undef) h = none Undef (h, λ is. other (inl is))
@@ -66,27 +50,6 @@ pub not_by : (k : ℤ) → (of_z w32 k ≡ 4 → ⊥) → (of_z w32 k ≡ 5 → 
 not_by k list set bag (inl is) = list (ap (of_z w32) is)
 not_by k list set bag (inr (inl is)) = set (ap (of_z w32) is)
 not_by k list set bag (inr (inr is)) = bag (ap (of_z w32) is)
-
--- ---- JSON
-
-pub read_means : (k n : ℤ) (bs : List ℕ) (v : Value) → IsByJson k → k ≡ kind_of v → n ≡ pos 0 → ReadAs IsValueForm bs v → IsOperand k n bs v
-read_means k n bs (Plain Undef) by is zero read = absurd ((distinct k by).0 is)
-read_means k n bs (Plain (Truth b)) by is zero read = absurd ((distinct k by).1 is)
-read_means k n bs (Plain (Num m)) by is zero read = absurd ((distinct k by).2 is)
-read_means k n bs (Plain (Text s)) by is zero read = absurd ((distinct k by).3 is)
-read_means k n bs (Plain (Inner ds)) by is zero (d, json, form) = (zero, (d, json, (is, form)))
-read_means k n bs (Set s) by is zero (d, json, form) = (zero, (d, json, (is, form)))
-read_means k n bs (Bag b) by is zero (d, json, form) = (zero, (d, json, (is, form)))
-
--- with a number nothing of these kinds is meant
-pub none_numbered : (k n : ℤ) (bs : List ℕ) → IsByJson k → n ≢ pos 0 → (v : Value) → ¬ IsOperand k n bs v
-none_numbered k n bs by other (Plain Undef) h = (distinct k by).0 h.0
-none_numbered k n bs by other (Plain (Truth b)) h = (distinct k by).1 h.0
-none_numbered k n bs by other (Plain (Num m)) h = (distinct k by).2 h.0
-none_numbered k n bs by other (Plain (Text s)) h = (distinct k by).3 h.0
-none_numbered k n bs by other (Plain (Inner ds)) h = other h.0
-none_numbered k n bs by other (Set s) h = other h.0
-none_numbered k n bs by other (Bag b) h = other h.0
 
 -- ---- actions
 

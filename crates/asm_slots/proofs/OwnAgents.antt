@@ -5,14 +5,11 @@ use Rattle.asm_state.specs.declared.named.Named.{Named}
 use Rattle.asm_state.specs.declared.scanned.Scanned.{Scanned}
 use Rattle.asm_storage.proofs.Scanning.{no_scans}
 use Rattle.asm_storage.specs.Calls.{IsFire, IsFireOver}
-use Rattle.asm_storage.specs.NamedRead.{IsNamedRead}
 use Rattle.asm_storage.specs.Part.{agent_of, IsPartOf}
 use Rattle.asm_storage.specs.Storage.{AgentAt, StorageView}
 use Rattle.asm_storage.specs.declared.call.Reply.{Reply}
 use Rattle.asm_storage.specs.declared.error.FireError.{FireError}
-use Rattle.asm_storage.specs.declared.error.ReadError.{ReadError}
 use Rattle.asm_storage.specs.declared.part.AgentPart.{AgentPart}
-use Rattle.asm_storage.specs.declared.reading.NamedReading.{NamedReading}
 use Rattle.asm_slots.specs.AgentCalls.{IsRepliedOver}
 use Rattle.asm_slots.specs.Standard.{Standard, meaning}
 use Rattle.asm_slots.specs.declared.shared.Shared.{Shared}
@@ -54,11 +51,3 @@ replied_over a new reads scans M (Ok t) is = record {
   depends = is.depends;
 }
 replied_over a new reads scans M (Err e) is = tt
-
--- and a read of declared reads
-pub part_reads_named : (s t : StorageView Standard) (old new : AgentPart) (a : AgentAt Standard) (reads : List Named)
-    (r : Result NamedReading ReadError) → t ≡ s → agent_of s old ≡ a →
-    IfOk r (IsNamedRead meaning (agent_of t old) (agent_of t new) reads) → IfOk r (IsNamedRead meaning a (agent_of s new) reads)
-part_reads_named s t old new a reads r same is read =
-    subst (λ (x : AgentAt Standard). IfOk r (IsNamedRead meaning x (agent_of s new) reads)) is
-    (subst (λ (x : StorageView Standard). IfOk r (IsNamedRead meaning (agent_of x old) (agent_of x new) reads)) same read)

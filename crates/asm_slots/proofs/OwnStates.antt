@@ -15,7 +15,7 @@ use Rattle.asm_slots.specs.Answers.{IsMemory}
 use Rattle.asm_slots.specs.Kinds.{bytes_of}
 use Rattle.asm_slots.specs.OwnState.{HasBytesAt, IsOwnOfName, IsOwnState, IsPeek, of_name, state_at, values_text}
 use Rattle.asm_slots.specs.Standard.{Standard, meaning, part}
-use Rattle.asm_slots.specs.Slots.{Holds, HoldsLocation}
+use Rattle.asm_slots.specs.Slots.{Holds, a_location, an_agent}
 use Rattle.asm_slots.specs.StepAnswers.{DoesNotPeekAt}
 use Rattle.asm_slots.specs.WrittenText.{HasNoText}
 use Rattle.asm_slots.specs.declared.codes.Code.{Code}
@@ -51,8 +51,8 @@ own_bytes at agent l a s out after n c is so own stands (kept, inl (small, (byte
         small,
         (
           bytes,
-          subst (λ (x : Option Content). HoldsLocation x (λ k. Holds agent (λ b. HasBytesAt k b bytes))) (sym is)
-              (subst (λ (x : Option Content). Holds x (λ b. HasBytesAt l b bytes)) (sym so) has),
+          subst (λ (x : Option Content). Holds a_location x (λ k. Holds an_agent agent (λ b. HasBytesAt k b bytes))) (sym is)
+              (subst (λ (x : Option Content). Holds an_agent x (λ b. HasBytesAt l b bytes)) (sym so) has),
           long,
         ),
       ),

@@ -9,7 +9,7 @@ use Rattle.asm_slots.specs.Kinds.{IsByJson}
 use Rattle.asm_slots.specs.Answers.{IsNoActionFor, IsNoElementFor, IsNoOperandFor, IsNoRoomFor, IsNotGathered, IsNotInstructed, IsNotPrepared, IsUnreadAs}
 use Rattle.asm_slots.specs.Answers.{IsNotAppended, IsNotUnited, code_of_pop, code_of_text, code_of_transaction}
 use Rattle.asm_slots.specs.StepCalls.{Errs}
-use Rattle.asm_slots.specs.Slots.{HasRoomForMove, HoldsStore, move_of}
+use Rattle.asm_slots.specs.Slots.{HasRoomFor, Holds, a_move, a_store, move_of}
 use Rattle.asm_slots.specs.Store.{StoreView}
 use Rattle.asm_storage.specs.Storage.{AgentAt}
 use Rattle.asm_update.specs.Action as action
@@ -60,7 +60,7 @@ no_room old verb kind number bytes amount code.Memory none = tt
 no_room old verb kind number bytes amount code.LongMove none = none
 no_room old verb kind number bytes amount _ none = absurd none
 
-pub no_instructed : (at old : Option Content) (verb kind number : ℤ) (bytes : List ℕ) (amount : ℕ) (c : Code) → HasRoomForMove old →
+pub no_instructed : (at old : Option Content) (verb kind number : ℤ) (bytes : List ℕ) (amount : ℕ) (c : Code) → HasRoomFor a_move old →
     IsNotGathered (move_of old) verb kind number bytes amount c → IsNotInstructed at old verb kind number bytes amount c
 no_instructed at old verb kind number bytes amount code.Empty room none = absurd none
 no_instructed at old verb kind number bytes amount code.Taken room none = absurd none
@@ -76,7 +76,7 @@ pub not_prepared : (at : Option Content) (bytes : List ℕ) (c : Code) → at �
 not_prepared at bytes code.Taken empty none = absurd none
 not_prepared at bytes _ empty none = (empty, none)
 
-pub not_united : (old other : Option Content) (c : Code) → HasRoomForMove old → IsNotAppended (move_of old) other c → IsNotUnited old other c
+pub not_united : (old other : Option Content) (c : Code) → HasRoomFor a_move old → IsNotAppended (move_of old) other c → IsNotUnited old other c
 not_united old other code.Taken room none = absurd none
 not_united old other _ room none = (room, none)
 
@@ -142,7 +142,7 @@ pub not_popped_in : (step : Option Content) (t : TransactionView) (c : Code) →
 not_popped_in step t code.Empty is none = absurd none
 not_popped_in step t c is none = subst (λ (x : Option Content). IsNotPoppedIn x c) (sym is) none
 
-pub not_popped_into : (step old : Option Content) (t : TransactionView) (c : Code) → step ≡ Some (content.Step t) → HasRoomForMove old →
+pub not_popped_into : (step old : Option Content) (t : TransactionView) (c : Code) → step ≡ Some (content.Step t) → HasRoomFor a_move old →
     IsUnpoppedMove t c → IsNotPoppedInto step old c
 not_popped_into step old t code.Taken is room none = absurd none
 not_popped_into step old t code.Empty is room none = absurd none
@@ -152,7 +152,7 @@ pub takes_none : (number : ℕ) (store agent : Option Content) (s : StoreView) (
     IsNotReturned number s c → TakesNoAgent number store agent c
 takes_none number store agent s code.Taken empty is none = absurd none
 takes_none number store agent s code.Empty empty is none = absurd none
-takes_none number store agent s c empty is none = (empty, subst (λ (x : Option Content). HoldsStore x (λ t. IsNotReturned number t c)) (sym is) none)
+takes_none number store agent s c empty is none = (empty, subst (λ (x : Option Content). Holds a_store x (λ t. IsNotReturned number t c)) (sym is) none)
 
 pub not_given : (store agent : Option Content) (s : StoreView) (a : AgentAt Standard) (c : Code) → store ≡ Some (content.Store s) →
     agent ≡ Some (content.Agent a) → IsNotAdded s a c → IsNotGiven store agent c

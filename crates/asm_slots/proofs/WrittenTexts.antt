@@ -6,7 +6,7 @@ use Rattle.asm_element.specs.Place.{Place}
 use Rattle.asm_element.specs.declared.value.Value.{Value}
 use Rattle.asm_transaction.specs.Reading.{IsOf, IsShown, IsUnread, IsUntracked}
 use Rattle.asm_transaction.specs.View.{TransactionView}
-use Rattle.asm_slots.specs.Slots.{ChangesStep, HoldBoth, HoldsStep}
+use Rattle.asm_slots.specs.Slots.{Changes, HoldBoth, Holds, a_step}
 use Rattle.asm_slots.specs.Kinds.{bytes_of}
 use Rattle.asm_slots.specs.Standard.{Standard, meaning}
 use Rattle.asm_slots.specs.StepAnswers.{ShowsBoth, ShowsNoText}
@@ -50,17 +50,17 @@ unread_bytes l a t v out after n c reached shown (kept, inr (zero, none)) = (kep
 hold_both : (agent step : Option Content) (a : AgentAt Standard) (s : TransactionView) (P : AgentAt Standard → TransactionView → Type 0) →
     agent ≡ Some (content.Agent a) → step ≡ Some (content.Step s) → P a s → HoldBoth agent step P
 hold_both agent step a s P e f p =
-    subst (λ (x : Option Content). HoldBoth x step P) (sym e) (subst (λ (x : Option Content). HoldsStep x (P a)) (sym f) p)
+    subst (λ (x : Option Content). HoldBoth x step P) (sym e) (subst (λ (x : Option Content). Holds a_step x (P a)) (sym f) p)
 
 -- what is written of an agent and a step is written of their slots
 pub shows : (P : AgentAt Standard → TransactionView → List ℕ → Type 0) (N : AgentAt Standard → TransactionView → Code → Type 0)
     (Q : TransactionView → TransactionView → Type 0) (agent step step_after : Option Content) (a : AgentAt Standard) (s t : TransactionView)
     (out after : List ℕ) (n : ℕ) (r : Result (Unit {0}) Code) → agent ≡ Some (content.Agent a) → step ≡ Some (content.Step s) →
     step_after ≡ Some (content.Step t) → IsWritten (P a s) (N a s) out after n r → OnOk r (Q s t) →
-    MatchResult r (λ done. ShowsBoth P agent step out after n × ChangesStep step step_after Q) (ShowsNoText P N agent step out after n)
+    MatchResult r (λ done. ShowsBoth P agent step out after n × Changes a_step step step_after Q) (ShowsNoText P N agent step out after n)
 shows P N Q agent step step_after a s t out after n (Ok u) e f g (text, is, copied) changed = (
   (text, hold_both agent step a s (λ b x. P b x text) e f is, copied),
-  subst (λ (x : Option Content). ChangesStep x step_after Q) (sym f) (subst (λ (x : Option Content). HoldsStep x (Q s)) (sym g) changed),
+  subst (λ (x : Option Content). Changes a_step x step_after Q) (sym f) (subst (λ (x : Option Content). Holds a_step x (Q s)) (sym g) changed),
 )
 shows P N Q agent step step_after a s t out after n (Err c) e f g (kept, inl (small, (text, is, long))) changed =
     (kept, inl (small, (text, hold_both agent step a s (λ b x. P b x text) e f is, long)))

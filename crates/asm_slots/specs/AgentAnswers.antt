@@ -22,7 +22,7 @@ use Rattle.asm_slots.specs.Answers.{EmptyOr, IsUnreadAs}
 use Rattle.asm_slots.specs.AgentCalls.{HasAnswered, HasPolled, HasRead, IsRepliedOver, MayHavePolled, ReportsFire, SeesOn, no_numbers}
 use Rattle.asm_slots.specs.Bytes.{AreMisread, AreReads, ReadAsManyLocations, ReadAsMoreReads, ReadAsReads}
 use Rattle.asm_slots.specs.OwnState.{state_at, NoneIsStale, HasPolledOn, IsStaleOf}
-use Rattle.asm_slots.specs.Slots.{Changes, HoldsNoAgent}
+use Rattle.asm_slots.specs.Slots.{Changes, Lacks, an_agent}
 use Rattle.asm_slots.specs.Standard.{Standard, meaning}
 use Rattle.asm_slots.specs.WrittenText.{HasNoText, HasText}
 use Rattle.asm_slots.specs.declared.codes.Code.{Code}
@@ -52,15 +52,15 @@ ReadsWithin bytes a =
 
 -- the locations of these bytes are read
 abbrev pub Reads : List ℕ → Option Content → Option Content → Type 0
-Reads locations agent after = Changes agent after (λ a b. HasRead locations a b × IsSameAgent a b × SeesOn a b)
+Reads locations agent after = Changes an_agent agent after (λ a b. HasRead locations a b × IsSameAgent a b × SeesOn a b)
 
 -- there is no agent, memory was refused, there are too many locations, or the bytes are none
 abbrev pub IsNotRead : List ℕ → Option Content → Option Content → Code → Type 0
-IsNotRead locations agent after refusal.Empty = HoldsNoAgent agent × (after ≡ agent)
+IsNotRead locations agent after refusal.Empty = Lacks an_agent agent × (after ≡ agent)
 IsNotRead locations agent after refusal.Memory =
-    Changes agent after (λ a b. HasPolled a b × MayHavePolled a b × IsSameAgent a b × SeesOn a b)
-IsNotRead locations agent after refusal.Many = Changes agent after (λ a b. b ≡ a) × ReadAsManyLocations locations
-IsNotRead locations agent after c = Changes agent after (λ a b. b ≡ a) × IsUnreadAs AreLocations locations c
+    Changes an_agent agent after (λ a b. HasPolled a b × MayHavePolled a b × IsSameAgent a b × SeesOn a b)
+IsNotRead locations agent after refusal.Many = Changes an_agent agent after (λ a b. b ≡ a) × ReadAsManyLocations locations
+IsNotRead locations agent after c = Changes an_agent agent after (λ a b. b ≡ a) × IsUnreadAs AreLocations locations c
 
 -- the bytes are JSON of a move without such a read, and the fire of it has this answer: that the declared reads are too
 -- many exactly if they are more than 256
@@ -89,8 +89,8 @@ Tries HasTried IsRefused old new n r =
 abbrev pub TriesIn : (AgentAt Standard → AgentAt Standard → Numbers → Result (Unit {0}) Code → Type 0) →
     Option Content → Option Content → Numbers → Result (Unit {0}) Code → Type 0
 TriesIn Try agent after n r =
-    Changes agent after (λ a b. Try a b n r)
-    ⊎ (HoldsNoAgent agent × (after ≡ agent) × (n ≡ no_numbers) × (r ≡ Err refusal.Empty))
+    Changes an_agent agent after (λ a b. Try a b n r)
+    ⊎ (Lacks an_agent agent × (after ≡ agent) × (n ≡ no_numbers) × (r ≡ Err refusal.Empty))
 
 -- the fire of these bytes
 abbrev pub Fires : List ℕ → AgentAt Standard → AgentAt Standard → Numbers → Result (Unit {0}) Code → Type 0
@@ -154,7 +154,7 @@ FiresOver call scans = Tries (HasTriedFireOver call scans) (IsNotTriedOver call 
 -- seen, have this property after what it has then seen
 abbrev pub Judges : List ℕ → Option Content → Option Content → (AgentAt Standard → Type 0) → Type 0
 Judges reads agent after P =
-    Changes agent after (λ a b. ReadsWithin reads a × HasPolledOn a b × IsSameAgent a b × SeesOn a b × P b)
+    Changes an_agent agent after (λ a b. ReadsWithin reads a × HasPolledOn a b × IsSameAgent a b × SeesOn a b × P b)
 
 -- they are valid
 abbrev pub Validates : List ℕ → Option Content → Option Content → Type 0
@@ -176,5 +176,5 @@ IsNotJudged reads a b c = (b ≡ a) × IsUnreadAs AreReads reads c
 abbrev pub DoesNotValidate : List ℕ → Option Content → Option Content → List ℕ → List ℕ → ℕ → Code → Type 0
 DoesNotValidate reads agent after out out_after written c =
     ((c ≡ refusal.Stale) × HasText (FindsStale reads agent after) out out_after written)
-    ⊎ HasNoText (FindsStale reads agent after) (EmptyOr (HoldsNoAgent agent × (after ≡ agent))
-    (λ k. Changes agent after (λ a b. IsNotJudged reads a b k))) out out_after written c
+    ⊎ HasNoText (FindsStale reads agent after) (EmptyOr (Lacks an_agent agent × (after ≡ agent))
+    (λ k. Changes an_agent agent after (λ a b. IsNotJudged reads a b k))) out out_after written c

@@ -23,12 +23,11 @@ pub use Rattle.asm_row.specs.Limits.{IsNoCapacity}
 use Rattle.asm_slots.specs.Standard.{Standard, meaning}
 use Rattle.asm_slots.specs.Bytes.{ReadAsLocations, ReadAsState}
 use Rattle.asm_slots.specs.ClosedStore.{IsJournalOf}
-use Rattle.asm_slots.specs.Slots.{HoldsStore, Changes}
+use Rattle.asm_slots.specs.Slots.{Changes, Holds, a_store, an_agent}
 use Rattle.asm_slots.specs.Store.{StoreView, IsPutIn, IsUnused}
 use Rattle.asm_slots.specs.declared.codes.Code.{Code}
 use Rattle.asm_slots.specs.declared.codes.Code.TheVariants as code
 use Rattle.asm_slots.specs.declared.content.Content.{Content}
-use Rattle.asm_slots.specs.declared.content.Content.TheVariants as content
 use Rattle.asm_slots.specs.declared.read_and_fire.Numbers.{Numbers}
 
 -- a storage with this opening state and this capacity, of which no agent was made
@@ -38,11 +37,6 @@ IsOpened bytes capacity s = ReadAsState bytes s.storage.init × (length s.storag
 -- the storage with these further numbers of agents that were made
 abbrev pub HasMade : List ℕ → StoreView → StoreView → Type 0
 HasMade numbers old new = new ≡ record old { numbers = old.numbers ++ numbers }
-
--- agents with these numbers were made of the storage
-abbrev pub Makes : List ℕ → Option Content → Option Content → Type 0
-Makes numbers (Some (content.Store s)) new = HoldsStore new (HasMade numbers s)
-Makes numbers _ new = ⊥
 
 -- the bytes are JSON of locations, and these were read, after a poll that found nothing more
 abbrev pub HasRead : List ℕ → AgentAt Standard → AgentAt Standard → Type 0
@@ -132,8 +126,7 @@ HasLearnt theirs old new =
 
 -- the agent has learnt what the other has seen
 abbrev pub Learns : Option Content → Option Content → Option Content → Type 0
-Learns (Some (content.Agent other)) old new = Changes old new (HasLearnt other.account.seen)
-Learns _ old new = ⊥
+Learns other old new = Holds an_agent other (λ b. Changes an_agent old new (HasLearnt b.account.seen))
 
 -- the storage with this agent among the returned ones, and without a journal
 abbrev pub HasTaken : AgentAt Standard → StoreView → StoreView → Type 0
@@ -141,8 +134,7 @@ HasTaken a old new = (new ≡ record old { agents = new.agents; journal = None }
 
 -- the agent was returned to the storage
 abbrev pub Gives : Option Content → Option Content → Option Content → Type 0
-Gives (Some (content.Store s)) (Some (content.Agent a)) new = HoldsStore new (HasTaken a s)
-Gives _ _ new = ⊥
+Gives store agent new = Holds an_agent agent (λ a. Changes a_store store new (HasTaken a))
 
 -- the storage without this agent, which was among the returned ones, and without a journal
 abbrev pub HasLost : AgentAt Standard → StoreView → StoreView → Type 0
@@ -162,8 +154,3 @@ KeepsJournal s (Some text) = IsJournalOf s.storage s.agents text
 -- the storage retains the journal of its returned agents, and all else is unchanged
 abbrev pub HasClosed : StoreView → StoreView → Type 0
 HasClosed old new = (new ≡ record old { journal = new.journal }) × KeepsJournal old new.journal
-
--- the storage was closed
-abbrev pub Closes : Option Content → Option Content → Type 0
-Closes (Some (content.Store s)) new = HoldsStore new (HasClosed s)
-Closes _ new = ⊥

@@ -22,7 +22,7 @@ use Rattle.asm_update.specs.Move.{Move}
 use Rattle.asm_explain.specs.Bytes.{IsNoJson, IsOtherJson}
 use Rattle.asm_journal.specs.Element.{IsLocationForm}
 use Rattle.asm_slots.specs.Kinds.{ASM_KIND_TEXT, IsByJson, IsMisshapen, IsNoAction, IsOperand, IsTextOrPlain}
-use Rattle.asm_slots.specs.Slots.{HasRoomForMove, HoldsNoAgent, HoldsNoLocation, move_of}
+use Rattle.asm_slots.specs.Slots.{HasRoomFor, Lacks, a_location, a_move, an_agent, move_of}
 use Rattle.asm_slots.specs.declared.content.Content.{Content}
 
 -- the code of bytes that aren't read
@@ -66,7 +66,7 @@ IsMemory c = c ≡ code.Memory
 
 -- a slot lacks what the call needs; or the call is refused for another reason
 abbrev pub EmptyOr : Type 0 → (Code → Type 0) → Code → Type 0
-EmptyOr Lacks Refused c = ((c ≡ code.Empty) × Lacks) ⊎ Refused c
+EmptyOr Missing Refused c = ((c ≡ code.Empty) × Missing) ⊎ Refused c
 
 -- the name isn't UTF-8
 abbrev pub IsNoName : List ℕ → Code → Type 0
@@ -117,10 +117,10 @@ IsNotGathered old verb kind number bytes amount c = IsNoActionFor verb kind numb
 
 -- or there is no location, or no room for a move in the slot; that comes before all others
 abbrev pub IsNotInstructed : Option Content → Option Content → ℤ → ℤ → ℤ → List ℕ → ℕ → Code → Type 0
-IsNotInstructed at old verb kind number bytes amount code.Taken = ¬ HasRoomForMove old
-IsNotInstructed at old verb kind number bytes amount code.Empty = HasRoomForMove old × HoldsNoLocation at
+IsNotInstructed at old verb kind number bytes amount code.Taken = ¬ HasRoomFor a_move old
+IsNotInstructed at old verb kind number bytes amount code.Empty = HasRoomFor a_move old × Lacks a_location at
 IsNotInstructed at old verb kind number bytes amount c =
-    HasRoomForMove old × IsNotGathered (move_of old) verb kind number bytes amount c
+    HasRoomFor a_move old × IsNotGathered (move_of old) verb kind number bytes amount c
 
 -- the slot is full, or the bytes are no location
 abbrev pub IsNotPrepared : Option Content → List ℕ → Code → Type 0
@@ -129,18 +129,18 @@ IsNotPrepared at bytes c = (at ≡ None) × IsUnreadAs IsLocationForm bytes c
 
 -- there is no other move to append, or no room for it
 abbrev pub IsNotAppended : Move → Option Content → Code → Type 0
-IsNotAppended old other code.Empty = ¬ HasRoomForMove other
-IsNotAppended old other code.LongMove = HasRoomForMove other × (instructions_limit < length old + length (move_of other))
-IsNotAppended old other code.Memory = HasRoomForMove other × (length old + length (move_of other) ≤ instructions_limit)
+IsNotAppended old other code.Empty = ¬ HasRoomFor a_move other
+IsNotAppended old other code.LongMove = HasRoomFor a_move other × (instructions_limit < length old + length (move_of other))
+IsNotAppended old other code.Memory = HasRoomFor a_move other × (length old + length (move_of other) ≤ instructions_limit)
 IsNotAppended old other _ = ⊥
 
 -- or the first slot holds something else; that comes before all others
 abbrev pub IsNotUnited : Option Content → Option Content → Code → Type 0
-IsNotUnited old other code.Taken = ¬ HasRoomForMove old
-IsNotUnited old other c = HasRoomForMove old × IsNotAppended (move_of old) other c
+IsNotUnited old other code.Taken = ¬ HasRoomFor a_move old
+IsNotUnited old other c = HasRoomFor a_move old × IsNotAppended (move_of old) other c
 
 -- the agents are not two of one storage
 abbrev pub AreNotTwo : Option Content → Option Content → Code → Type 0
-AreNotTwo agent other code.Empty = HoldsNoAgent agent ⊎ HoldsNoAgent other
+AreNotTwo agent other code.Empty = Lacks an_agent agent ⊎ Lacks an_agent other
 AreNotTwo agent other code.Other = Unit {0}
 AreNotTwo agent other _ = ⊥

@@ -13,7 +13,7 @@ use Rattle.asm_slots.specs.AuditView.{AuditView}
 use Rattle.asm_slots.specs.Journals.{code_of_journal, line_of}
 use Rattle.asm_slots.specs.declared.codes.Code.{Code}
 use Rattle.asm_slots.specs.declared.codes.Code.TheVariants as code
-use Rattle.asm_slots.specs.Slots.{ChangesAudit, HoldsAudit, HoldsNoAudit, HasRoomForAudit}
+use Rattle.asm_slots.specs.Slots.{ChangesAudit, HasRoomFor, Holds, Lacks, an_audit}
 use Rattle.asm_slots.specs.Standard.{part}
 use Rattle.asm_slots.specs.declared.audit.AuditNumbers.{AuditNumbers}
 use Rattle.asm_slots.specs.declared.content.Content.{Content}
@@ -70,7 +70,7 @@ abbrev pub Audits : List ℕ → Option Content → Option Content → ℕ → A
 Audits bytes audit after taken n r =
     ChangesAudit audit after (HasAudited bytes taken n r)
     ⊎ ((after ≡ audit) × (taken ≡ 0) × (n ≡ no_numbers)
-    × (((audit ≡ None) × (r ≡ Err code.Memory)) ⊎ ((¬ HasRoomForAudit audit) × (r ≡ Err code.Taken))))
+    × (((audit ≡ None) × (r ≡ Err code.Memory)) ⊎ ((¬ HasRoomFor an_audit audit) × (r ≡ Err code.Taken))))
 
 -- the answer if no byte follows: the run is complete and legal, or this is its fault, which is no wrong answer
 pub record HasEnd (n : AuditNumbers) (r : Result (Unit {0}) Code) (a : AuditView) : Type 0 where
@@ -82,7 +82,7 @@ pub record HasEnd (n : AuditNumbers) (r : Result (Unit {0}) Code) (a : AuditView
 -- that of the slot's audit, if it holds one
 abbrev pub EndsAudit : Option Content → AuditNumbers → Result (Unit {0}) Code → Type 0
 EndsAudit audit n r =
-    HoldsAudit audit (HasEnd n r) ⊎ (HoldsNoAudit audit × (n ≡ no_numbers) × (r ≡ Err code.Empty))
+    Holds an_audit audit (HasEnd n r) ⊎ (Lacks an_audit audit × (n ≡ no_numbers) × (r ≡ Err code.Empty))
 
 -- the text is the JSON of the state that the moves of the lines that have ended leave
 abbrev pub IsAuditState : AuditView → List ℕ → Type 0

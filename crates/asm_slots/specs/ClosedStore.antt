@@ -8,7 +8,7 @@ use Rattle.asm_storage.specs.History.{Fits}
 use Rattle.asm_storage.specs.Storage.{AgentAt, StorageView, accounts, IsMissing}
 use Rattle.asm_journal.specs.Text.{text_of}
 use Rattle.asm_slots.specs.Standard.{Standard, meaning}
-use Rattle.asm_slots.specs.Slots.{HoldsNoStore, HoldsStore}
+use Rattle.asm_slots.specs.Slots.{Holds, Lacks, a_store}
 use Rattle.asm_slots.specs.declared.codes.Code.{Code}
 use Rattle.asm_slots.specs.declared.codes.Code.TheVariants as code
 use Rattle.asm_slots.specs.declared.content.Content.{Content}
@@ -50,8 +50,8 @@ HasNoJournal s all history unclosed.Memory = Unit {0}
 -- the storage of the slot isn't closed, for want of one, of a receipt of the move with this number, or of room in a
 -- journal; without a move, the number is 0
 abbrev pub IsNotClosed : Option Content → ℕ → Code → Type 0
-IsNotClosed store number code.Empty = (number ≡ 0) × HoldsNoStore store
-IsNotClosed store number code.Missing = HoldsStore store (λ s. LacksReceipt s.storage s.agents number)
-IsNotClosed store number code.ManyCalls = (number ≡ 0) × HoldsStore store (λ s. IsTooLarge s.storage s.agents)
+IsNotClosed store number code.Empty = (number ≡ 0) × Lacks a_store store
+IsNotClosed store number code.Missing = Holds a_store store (λ s. LacksReceipt s.storage s.agents number)
+IsNotClosed store number code.ManyCalls = (number ≡ 0) × Holds a_store store (λ s. IsTooLarge s.storage s.agents)
 IsNotClosed store number code.Memory = number ≡ 0
 IsNotClosed store number _ = ⊥

@@ -44,6 +44,15 @@ number_of variant.NotFull = pos 32
 number_of variant.ManyCalls = pos 33
 number_of variant.LongLine = pos 34
 number_of variant.LongMove = pos 35
+number_of variant.Name = pos 36
+number_of variant.Order = pos 37
+number_of variant.NotNext = pos 38
+number_of variant.Opening = pos 39
+number_of variant.Previous = pos 40
+number_of variant.Damaged = pos 41
+number_of variant.Counts = pos 42
+number_of variant.LongRun = pos 43
+number_of variant.OneSegment = pos 44
 
 -- the number that C gets
 abbrev pub answer_of : Result (Unit {0}) Code → ℤ
@@ -100,7 +109,16 @@ further_texts =
     codes "the state of the agent is at fewer moves than the storage has room for" ∷
     codes "more than the 4,294,967,295 calls of a journal" ∷
     codes "a line of more than 1,073,741,824 bytes" ∷
-    codes "a move of more than 4,096 instructions" ∷ []
+    codes "a move of more than 4,096 instructions" ∷
+    codes "not the name of a segment" ∷
+    codes "another call comes next" ∷
+    codes "not the number of the next segment" ∷
+    codes "segment 0 has events, or something before it" ∷
+    codes "not the segment after the one before it" ∷
+    codes "not the text that was saved" ∷
+    codes "a segment has other counts than its name says" ∷
+    codes "100,000,000 segments, or 2^64 moves or more" ∷
+    codes "the only segment of a run is not dropped" ∷ []
 
 -- the text with this index among these, or that of no code if there is none
 abbrev pub text_among : List (List ℕ) → ℤ → List ℕ

@@ -10,7 +10,7 @@ use Rattle.asm_transaction.specs.Reading.{IsOf}
 use Rattle.asm_transaction.specs.Record.{Records}
 use Rattle.asm_transaction.specs.View.{TransactionView}
 use Rattle.asm_slots.specs.AgentCalls.{ReportsFire, no_numbers}
-use Rattle.asm_slots.specs.Slots.{HoldBoth, Holds, LacksOne}
+use Rattle.asm_slots.specs.Slots.{HoldBoth, Holds, LacksOne, an_agent}
 use Rattle.asm_slots.specs.Standard.{Standard, meaning}
 use Rattle.asm_slots.specs.declared.codes.Code.{Code}
 use Rattle.asm_slots.specs.declared.codes.Code.TheVariants as code
@@ -36,7 +36,7 @@ HasCommittedRecorded t old new n r = (answer : Result Reply FireError) × Record
 abbrev pub CommitsIn : (TransactionView → AgentAt Standard → AgentAt Standard → Numbers → Result (Unit {0}) Code → Type 0) →
     Option Content → Option Content → Option Content → Numbers → Result (Unit {0}) Code → Type 0
 CommitsIn HasDone agent after step n r =
-    HoldBoth agent step (λ a t. Holds after (λ b. HasDone t a b n r))
+    HoldBoth agent step (λ a t. Holds an_agent after (λ b. HasDone t a b n r))
     ⊎ (LacksOne agent step × (after ≡ agent) × (n ≡ no_numbers) × (r ≡ Err code.Empty))
 
 -- the text of the fire that its commit makes, {"fire":[INSTR, ..],"reads":[NAMED, ..]}

@@ -26,3 +26,8 @@ pub mod Commit
 pub mod Kinds
 pub mod Popping
 pub mod Members
+pub mod Counting
+pub mod RunReads
+pub mod RunView
+pub mod RunWrites
+pub mod Runs

@@ -9,7 +9,7 @@ use Rattle.asm_transaction.specs.Reading.{HasTracked, IsOf, IsUnread}
 use Rattle.asm_transaction.specs.View.{TransactionView}
 use Rattle.asm_slots.specs.Answers.{IsNoOperandFor}
 use Rattle.asm_slots.specs.Kinds.{IsOperand}
-use Rattle.asm_slots.specs.Slots.{HoldBoth, HoldsLocation, HoldsNoLocation, HoldsStep, LacksOne}
+use Rattle.asm_slots.specs.Slots.{HoldBoth, Holds, Lacks, LacksOne, a_location, a_step}
 use Rattle.asm_slots.specs.Standard.{Standard, meaning}
 use Rattle.asm_slots.specs.StepCalls.{Errs, HasReached}
 use Rattle.asm_slots.specs.declared.codes.Code.{Code}
@@ -48,14 +48,14 @@ IsNotSized l a old new c =
 abbrev pub ReportsAt : (Place → AgentAt Standard → TransactionView → Type 0) → Option Content → Option Content → Option Content →
     Option Content → Type 0
 ReportsAt Is at agent step after =
-    HoldsLocation at (λ l. HoldBoth agent step (λ a t. Is l a t × HoldsStep after (HasTracked (l ∷ []) t)))
+    Holds a_location at (λ l. HoldBoth agent step (λ a t. Is l a t × Holds a_step after (HasTracked (l ∷ []) t)))
 
 -- a slot lacks what the call needs, and the step is unchanged; or this is why nothing is reported
 abbrev pub DoesNotReportAt : (Place → AgentAt Standard → TransactionView → TransactionView → Code → Type 0) → Option Content →
     Option Content → Option Content → Option Content → Code → Type 0
 DoesNotReportAt IsNone at agent step after c =
-    ((after ≡ step) × (c ≡ code.Empty) × (HoldsNoLocation at ⊎ LacksOne agent step))
-    ⊎ HoldsLocation at (λ l. HoldBoth agent step (λ a t. HoldsStep after (λ u. IsNone l a t u c)))
+    ((after ≡ step) × (c ≡ code.Empty) × (Lacks a_location at ⊎ LacksOne agent step))
+    ⊎ Holds a_location at (λ l. HoldBoth agent step (λ a t. Holds a_step after (λ u. IsNone l a t u c)))
 
 -- the element is so often in the set or the bag that the step shows at the location, which is tracked
 abbrev pub CountsAt : ℤ → ℤ → List ℕ → Option Content → Option Content → Option Content → Option Content → ℕ → Type 0

@@ -8,7 +8,7 @@ use Rattle.asm_slots.specs.AgentCalls.{IsNoCapacity, IsOpened}
 use Rattle.asm_slots.specs.Answers.{IsUnreadAs}
 use Rattle.asm_slots.specs.ClosedJournal.{Leaves}
 use Rattle.asm_slots.specs.OwnState.{state_at}
-use Rattle.asm_slots.specs.Slots.{Holds, HoldsNoAgent, HoldsNoStore, HoldsStore}
+use Rattle.asm_slots.specs.Slots.{Holds, Lacks, a_store, an_agent}
 use Rattle.asm_slots.specs.Standard.{Standard}
 use Rattle.asm_slots.specs.Store.{StoreView, IsUnused}
 use Rattle.asm_slots.specs.declared.codes.Code.{Code}
@@ -17,7 +17,7 @@ use Rattle.asm_slots.specs.declared.content.Content.{Content}
 
 -- a storage with this opening state and this capacity is opened in the empty slot
 abbrev pub Opens : List ℕ → ℕ → Option Content → Option Content → Type 0
-Opens bytes capacity old new = (old ≡ None) × HoldsStore new (IsOpened bytes capacity)
+Opens bytes capacity old new = (old ≡ None) × Holds a_store new (IsOpened bytes capacity)
 
 -- the slot is full, the bytes are no state, or no storage has this capacity
 abbrev pub IsNotOpened : List ℕ → ℕ → Option Content → Code → Type 0
@@ -44,13 +44,13 @@ LacksJournal s = s.journal ≡ None
 
 -- the storage of the one slot continues in the other, which was empty
 abbrev pub IsNextOf : ℕ → Option Content → Option Content → Option Content → Type 0
-IsNextOf capacity store old new = (old ≡ None) × HoldsStore store (λ s. HoldsStore new (Continues capacity s))
+IsNextOf capacity store old new = (old ≡ None) × Holds a_store store (λ s. Holds a_store new (Continues capacity s))
 
 -- that slot is full, there is no storage or no journal to continue, or no storage has this capacity
 abbrev pub IsNotNext : ℕ → Option Content → Option Content → Code → Type 0
 IsNotNext capacity store old code.Taken = old ≢ None
-IsNotNext capacity store old code.Empty = (old ≡ None) × HoldsNoStore store
-IsNotNext capacity store old code.NoJournal = (old ≡ None) × HoldsStore store LacksJournal
+IsNotNext capacity store old code.Empty = (old ≡ None) × Lacks a_store store
+IsNotNext capacity store old code.NoJournal = (old ≡ None) × Holds a_store store LacksJournal
 IsNotNext capacity store old code.Capacity = (old ≡ None) × IsNoCapacity capacity
 IsNotNext capacity store old code.Memory = old ≡ None
 IsNotNext capacity store old _ = ⊥
@@ -71,13 +71,13 @@ pub record ContinuesFrom (most : ℕ) (a : AgentAt Standard) (new : StoreView) :
 -- the storage of the agent in the one slot continues in the other, which was empty
 abbrev pub GoesOn : ℕ → Option Content → Option Content → Option Content → Type 0
 GoesOn capacity agent old new =
-    (old ≡ None) × ¬ IsNoCapacity capacity × Holds agent (λ a. HoldsStore new (ContinuesFrom capacity a))
+    (old ≡ None) × ¬ IsNoCapacity capacity × Holds an_agent agent (λ a. Holds a_store new (ContinuesFrom capacity a))
 
 -- that slot is full, there is no agent that has followed all moves, or no storage has this capacity
 abbrev pub DoesNotGoOn : ℕ → Option Content → Option Content → Code → Type 0
 DoesNotGoOn capacity agent old code.Taken = old ≢ None
-DoesNotGoOn capacity agent old code.Empty = (old ≡ None) × HoldsNoAgent agent
-DoesNotGoOn capacity agent old code.NotFull = (old ≡ None) × Holds agent (λ a. ¬ IsAtEnd a)
-DoesNotGoOn capacity agent old code.Capacity = (old ≡ None) × IsNoCapacity capacity × Holds agent IsAtEnd
-DoesNotGoOn capacity agent old code.Memory = (old ≡ None) × ¬ IsNoCapacity capacity × Holds agent IsAtEnd
+DoesNotGoOn capacity agent old code.Empty = (old ≡ None) × Lacks an_agent agent
+DoesNotGoOn capacity agent old code.NotFull = (old ≡ None) × Holds an_agent agent (λ a. ¬ IsAtEnd a)
+DoesNotGoOn capacity agent old code.Capacity = (old ≡ None) × IsNoCapacity capacity × Holds an_agent agent IsAtEnd
+DoesNotGoOn capacity agent old code.Memory = (old ≡ None) × ¬ IsNoCapacity capacity × Holds an_agent agent IsAtEnd
 DoesNotGoOn capacity agent old _ = ⊥

@@ -20,12 +20,11 @@ use Rattle.asm_transaction.specs.View.{new_transaction}
 use Rattle.asm_slots.specs.Bytes.{ReadAsLocations, ReadAsReads}
 use Rattle.asm_slots.specs.AgentCalls.{HasPolled, SeesOn}
 use Rattle.asm_slots.specs.Kinds.{IsValueBy, bytes_of}
-use Rattle.asm_slots.specs.Slots.{Changes, HasRoomForStep, HoldBoth, Holds, HoldsNoAgent}
+use Rattle.asm_slots.specs.Slots.{Changes, HasRoomFor, HoldBoth, Holds, Lacks, a_step, an_agent}
 use Rattle.asm_slots.specs.Standard.{Standard, meaning, part}
 use Rattle.asm_slots.specs.declared.codes.Code.{Code}
 use Rattle.asm_slots.specs.declared.codes.Code.TheVariants as code
 use Rattle.asm_slots.specs.declared.content.Content.{Content}
-use Rattle.asm_slots.specs.declared.content.Content.TheVariants as content
 
 -- the state at this version: what so many first moves leave of those that the agent has seen
 abbrev pub state_at : AgentAt Standard → ℕ → State
@@ -82,23 +81,23 @@ HasFollowed n old new = HasPolledOn old new × (n ≡ length new.account.seen) �
 
 -- the agent has polled until it found nothing more, and its own state is at this version
 abbrev pub Follows : ℕ → Option Content → Option Content → Type 0
-Follows number agent after = Changes agent after (λ a b. HasFollowed number a b × IsSameAgent a b × SeesOn a b)
+Follows number agent after = Changes an_agent agent after (λ a b. HasFollowed number a b × IsSameAgent a b × SeesOn a b)
 
 -- there is no agent, or memory was refused while it polled
 abbrev pub DoesNotFollow : Option Content → Option Content → Code → Type 0
-DoesNotFollow agent after code.Empty = HoldsNoAgent agent × (after ≡ agent)
-DoesNotFollow agent after code.Memory = Changes agent after (λ a b. HasPolledOn a b × IsSameAgent a b × SeesOn a b)
+DoesNotFollow agent after code.Empty = Lacks an_agent agent × (after ≡ agent)
+DoesNotFollow agent after code.Memory = Changes an_agent agent after (λ a b. HasPolledOn a b × IsSameAgent a b × SeesOn a b)
 DoesNotFollow agent after _ = ⊥
 
 -- it has followed, and the other slot, which was empty or held a step, holds a new one of the agent at this version
 abbrev pub Begins : ℕ → Option Content → Option Content → Option Content → Option Content → Type 0
 Begins number agent after step step_after =
-    HasRoomForStep step × Follows number agent after × HoldBoth after step_after (λ a t. (t ≡ new_transaction number) × IsOf meaning a t)
+    HasRoomFor a_step step × Follows number agent after × HoldBoth after step_after (λ a t. (t ≡ new_transaction number) × IsOf meaning a t)
 
 -- the other slot holds something else; or the agent doesn't follow, or memory was refused once it had
 abbrev pub DoesNotBegin : Option Content → Option Content → Option Content → Code → Type 0
-DoesNotBegin agent after step code.Taken = ¬ HasRoomForStep step × (after ≡ agent)
-DoesNotBegin agent after step c = HasRoomForStep step × DoesNotFollow agent after c
+DoesNotBegin agent after step code.Taken = ¬ HasRoomFor a_step step × (after ≡ agent)
+DoesNotBegin agent after step c = HasRoomFor a_step step × DoesNotFollow agent after c
 
 -- the bytes are JSON of declared reads, and none of them is stale after what the agent has then seen
 abbrev pub NoneIsStale : List ℕ → AgentAt Standard → Type 0
@@ -117,5 +116,5 @@ IsStaleOf bytes a text =
 -- the one agent has learnt what the other has seen, and the two have exchanged their states if that of the other was
 -- ahead
 abbrev pub TakesState : Option Content → Option Content → Option Content → Option Content → Type 0
-TakesState (Some (content.Agent a)) (Some (content.Agent b)) new left = Holds new (λ c. Holds left (HasTaken a b c))
-TakesState _ _ new left = ⊥
+TakesState one other new left =
+    Changes an_agent one new (λ a c. Changes an_agent other left (λ b. HasTaken a b c))

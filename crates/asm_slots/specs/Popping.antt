@@ -9,7 +9,7 @@ use Rattle.asm_transaction.specs.View.{TransactionView}
 use Rattle.asm_transaction.specs.declared.error.PopError.TheVariants as pop_error
 use Rattle.asm_aggregate.specs.declared.composition.ComposeError.{ComposeError}
 use Rattle.asm_slots.specs.Answers.{code_of_compose}
-use Rattle.asm_slots.specs.Slots.{HasRoomForMove, HoldsNoStep, HoldsStep}
+use Rattle.asm_slots.specs.Slots.{HasRoomFor, Holds, Lacks, a_move, a_step}
 use Rattle.asm_slots.specs.Standard.{standard}
 use Rattle.asm_slots.specs.StepCalls.{Errs}
 use Rattle.asm_slots.specs.declared.codes.Code.{Code}
@@ -36,11 +36,11 @@ IsUnpoppedMove t c = (e : ComposeError) × IsNotPopped standard t (pop_error.Com
 
 -- the slot holds no step, or nothing is popped of it
 abbrev pub IsNotPoppedIn : Option Content → Code → Type 0
-IsNotPoppedIn step code.Empty = HoldsNoStep step
-IsNotPoppedIn step c = HoldsStep step (λ t. IsUnpopped t c)
+IsNotPoppedIn step code.Empty = Lacks a_step step
+IsNotPoppedIn step c = Holds a_step step (λ t. IsUnpopped t c)
 
 -- or there is no room for the move in the other slot; that comes before all others
 abbrev pub IsNotPoppedInto : Option Content → Option Content → Code → Type 0
-IsNotPoppedInto step old code.Taken = ¬ HasRoomForMove old
-IsNotPoppedInto step old code.Empty = HasRoomForMove old × HoldsNoStep step
-IsNotPoppedInto step old c = HasRoomForMove old × HoldsStep step (λ t. IsUnpoppedMove t c)
+IsNotPoppedInto step old code.Taken = ¬ HasRoomFor a_move old
+IsNotPoppedInto step old code.Empty = HasRoomFor a_move old × Lacks a_step step
+IsNotPoppedInto step old c = HasRoomFor a_move old × Holds a_step step (λ t. IsUnpoppedMove t c)

@@ -4,7 +4,7 @@ ghost use Rattle.asm_slots.specs.Answers.{EmptyOr, IsMemory};
 ghost use Rattle.asm_slots.specs.Audits.{Audits, EndsAudit, HasAudited, HasNoState, IsAuditState, code_of_audit, counts_of};
 ghost use Rattle.asm_slots.specs.Audits.{no_numbers, numbers_of};
 ghost use Rattle.asm_slots.specs.AuditView.{AuditView, WasFed};
-ghost use Rattle.asm_slots.specs.Slots.{HoldsAudit, HoldsNoAudit, content_of};
+ghost use Rattle.asm_slots.specs.Slots.{Holds, Lacks, an_audit, content_of};
 ghost use Rattle.asm_slots.specs.WrittenText.{IsWritten};
 ghost use Rattle.asm_slots.specs.declared.content.Content.TheVariants as content;
 
@@ -30,7 +30,7 @@ impl AuditNumbers {
         }
     }
 
-    fn of(counts: Counts) -> AuditNumbers
+    pub(crate) fn of(counts: Counts) -> AuditNumbers
         ensures { counts_of result ≡ counts }
     {
         AuditNumbers {
@@ -53,7 +53,7 @@ impl AuditNumbers {
 }
 
 // Return the code of the error, and set its numbers.
-fn code_of_audit_error(error: AuditError, reported: &mut AuditNumbers) -> Code
+pub(crate) fn code_of_audit_error(error: AuditError, reported: &mut AuditNumbers) -> Code
     ensures code { result ≡ code_of_audit error }
     ensures numbers { reported.new ≡ numbers_of error }
 {
@@ -107,9 +107,9 @@ fn feed_in(
     taken: &mut usize,
     reported: &mut AuditNumbers,
 ) -> Result<(), Code>
-    ensures audited { HoldsAudit (content_of slot.old)
-        (λ a. HoldsAudit (content_of slot.new) (HasAudited bytes.now taken.new reported.new result a))
-        ⊎ (HoldsNoAudit (content_of slot.old) × (content_of slot.new ≡ content_of slot.old) × (result ≡ Err Code.Taken)
+    ensures audited { Holds an_audit (content_of slot.old)
+        (λ a. Holds an_audit (content_of slot.new) (HasAudited bytes.now taken.new reported.new result a))
+        ⊎ (Lacks an_audit (content_of slot.old) × (content_of slot.new ≡ content_of slot.old) × (result ≡ Err Code.Taken)
         × (taken.new ≡ taken.old) × (reported.new ≡ reported.old)) }
 {
     lend!(audit: Audit = slot, Err(Code::Taken));
@@ -176,8 +176,8 @@ pub fn audit_state(
     out: &mut [u8],
     written: &mut usize,
 ) -> Result<(), Code>
-    ensures text { IsWritten (λ text. HoldsAudit (content_of slot.old) (λ a. IsAuditState a text))
-        (EmptyOr (HoldsNoAudit (content_of slot.old)) (λ c. IsMemory c ⊎ ((c ≡ Code.NoPart) × HoldsAudit (content_of slot.old) HasNoState)))
+    ensures text { IsWritten (λ text. Holds an_audit (content_of slot.old) (λ a. IsAuditState a text))
+        (EmptyOr (Lacks an_audit (content_of slot.old)) (λ c. IsMemory c ⊎ ((c ≡ Code.NoPart) × Holds an_audit (content_of slot.old) HasNoState)))
         out.old out.new written.new result }
     ensures kept { content_of slot.new ≡ content_of slot.old }
 {

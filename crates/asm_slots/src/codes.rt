@@ -50,6 +50,15 @@ pub enum Code {
     ManyCalls = 33,
     LongLine = 34,
     LongMove = 35,
+    Name = 36,
+    Order = 37,
+    NotNext = 38,
+    Opening = 39,
+    Previous = 40,
+    Damaged = 41,
+    Counts = 42,
+    LongRun = 43,
+    OneSegment = 44,
 }
 
 /// Set `written` to how many bytes there are, and return `Small`, if the buffer has no room for them.
@@ -158,6 +167,15 @@ fn further_text(code: i32) -> &'static str
         33 => "more than the 4,294,967,295 calls of a journal",
         34 => "a line of more than 1,073,741,824 bytes",
         35 => "a move of more than 4,096 instructions",
+        36 => "not the name of a segment",
+        37 => "another call comes next",
+        38 => "not the number of the next segment",
+        39 => "segment 0 has events, or something before it",
+        40 => "not the segment after the one before it",
+        41 => "not the text that was saved",
+        42 => "a segment has other counts than its name says",
+        43 => "100,000,000 segments, or 2^64 moves or more",
+        44 => "the only segment of a run is not dropped",
         _ => "no code of this library",
     }
 }

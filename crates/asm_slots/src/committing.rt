@@ -4,7 +4,7 @@ ghost use Rattle.serde_json.specs.Written.{compact_text};
 ghost use Rattle.asm_journal.specs.Event.{call_json_of};
 ghost use Rattle.asm_slots.specs.Answers.{EmptyOr, IsMemory};
 ghost use Rattle.asm_slots.specs.Commit.{CommitsIn, HasCommitted, HasCommittedRecorded, HasFiredOnce, IsOfferText};
-ghost use Rattle.asm_slots.specs.Slots.{HoldsNoStep, HoldsStep, content_of};
+ghost use Rattle.asm_slots.specs.Slots.{Holds, Lacks, a_step, content_of};
 ghost use Rattle.asm_slots.specs.WrittenText.{IsWritten};
 
 use crate::codes::{Code, write};
@@ -55,6 +55,7 @@ pub fn commit(
     lend!(inner: Agent = agent, Err(Code::Empty));
     lend!(over: Step = step, Err(Code::Empty));
     commit_of(alloc, inner, over, numbers)?;
+    inner.keep_memory(over);
     *step = Slot::empty(alloc);
     Ok(())
 }
@@ -73,6 +74,7 @@ pub fn commit_recorded(
     lend!(inner: Agent = agent, Err(Code::Empty));
     lend!(over: Step = step, Err(Code::Empty));
     commit_recorded_of(alloc, inner, over, numbers)?;
+    inner.keep_memory(over);
     *step = Slot::empty(alloc);
     Ok(())
 }
@@ -97,8 +99,8 @@ pub fn offer(
     out: &mut [u8],
     written: &mut usize,
 ) -> Result<(), Code>
-    ensures text { IsWritten (λ text. HoldsStep (content_of step.old) (λ s. IsOfferText s text))
-        (EmptyOr (HoldsNoStep (content_of step.old)) IsMemory) out.old out.new written.new result }
+    ensures text { IsWritten (λ text. Holds a_step (content_of step.old) (λ s. IsOfferText s text))
+        (EmptyOr (Lacks a_step (content_of step.old)) IsMemory) out.old out.new written.new result }
     ensures kept { content_of step.new ≡ content_of step.old }
 {
     *written = 0;

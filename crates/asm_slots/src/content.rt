@@ -1,6 +1,7 @@
 //! The content of a slot, in the box behind its handle.
 use crate::audit::Audit;
 use crate::owned_agent::OwnedAgent;
+use crate::run::Run;
 use crate::store::Store;
 use asm_element::Location;
 use asm_transaction::Transaction;
@@ -18,4 +19,5 @@ pub enum Content {
     Location(Location),
     Move(Instructions),
     Audit(Audit),
+    Run(Run),
 }

@@ -1,7 +1,7 @@
 //! Reading through a step all locations with one function name, and the scan of the function.
 ghost use Rattle.std.specs.Prelude.{◌≡◌, ◌⊎◌, string_bytes, IfErr, IfOk, MatchResult, OnErr, OnOk};
 ghost use Rattle.asm_slots.specs.Answers.{IsNoName};
-ghost use Rattle.asm_slots.specs.Slots.{ChangesStep, content_of};
+ghost use Rattle.asm_slots.specs.Slots.{Changes, a_step, content_of};
 ghost use Rattle.asm_slots.specs.StepAnswers.{ShowsBoth, ShowsNoText};
 ghost use Rattle.asm_slots.specs.StepCalls.{Errs, HasReached, IsFoundBy, IsFoundText, IsNotScanned};
 ghost use Rattle.asm_slots.specs.WrittenText.{IsWritten};
@@ -89,7 +89,7 @@ pub fn step_scan(
 ) -> Result<(), Code>
     ensures answers { MatchResult result
         (λ done. ShowsBoth (IsFoundBy name.now) (content_of agent.old) (content_of step.old) out.old out.new written.new
-        × ChangesStep (content_of step.old) (content_of step.new) (HasScanned name.now))
+        × Changes a_step (content_of step.old) (content_of step.new) (HasScanned name.now))
         (ShowsNoText (IsFoundBy name.now) (λ a s c. IsNoName name.now c ⊎ IsNotScanned name.now a s c)
         (content_of agent.old) (content_of step.old) out.old out.new written.new) }
     ensures stays { OnErr result (content_of step.new ≡ content_of step.old) }

@@ -6,11 +6,11 @@ ghost use Rattle.asm_storage.specs.Part.{agent_of, IsPartOf};
 ghost use Rattle.asm_storage.specs.declared.part.AgentPart.{AgentPart};
 ghost use Rattle.asm_slots.specs.Answers.{EmptyOr};
 ghost use Rattle.asm_slots.specs.WrittenText.{IsWritten};
-ghost use Rattle.asm_slots.specs.AgentCalls.{Closes, Gives, HasLost, HasTaken};
+ghost use Rattle.asm_slots.specs.AgentCalls.{Gives, HasClosed, HasLost, HasTaken};
 ghost use Rattle.asm_slots.specs.ClosedStore.{IsNotClosed};
 ghost use Rattle.asm_slots.specs.InsertPoint.{IsInsertPoint, IsAmong};
 ghost use Rattle.asm_slots.specs.MadeAgents.{IsNotAdded, IsNotGiven, IsNotReturned, TakesAgent, TakesNoAgent};
-ghost use Rattle.asm_slots.specs.Slots.{Holds, HoldsNoStore, HoldsStore, IsOfStore, content_of};
+ghost use Rattle.asm_slots.specs.Slots.{Changes, Holds, IsOfStore, Lacks, a_store, an_agent, content_of};
 ghost use Rattle.asm_slots.specs.Standard.{meaning};
 
 use crate::codes::{Code, write};
@@ -23,6 +23,7 @@ use crate::store::Store;
 use crate::store_close::Unclosed;
 use crate::take_and_put::{put_agent, put_store, take_agent, take_store};
 use asm_storage::AgentPart;
+use asm_transaction::Transaction;
 use std::alloc::Global;
 use std::sync::Arc;
 
@@ -58,7 +59,11 @@ fn part_of(agent: OwnedAgent) -> AgentPart
     ensures agent { agent_of agent.storage result ≡ agent }
     ensures part { IsPartOf meaning agent.storage result }
 {
-    let OwnedAgent { shared: _, part } = agent;
+    let OwnedAgent {
+        shared: _,
+        part,
+        spare: _,
+    } = agent;
     part
 }
 
@@ -129,8 +134,8 @@ fn place_of(parts: &[AgentPart], number: u32) -> Option<usize>
 impl Store {
     /// Check out the returned agent with this number, in a slot's box.
     fn take_back(&mut self, alloc: Global, number: u32) -> Result<Box<Content>, Code>
-        ensures lost { IfOk result (λ b. Holds (Some b.value) (λ a. HasLost a self.old self.new)) }
-        ensures numbered { IfOk result (λ b. Holds (Some b.value) (λ a. a.account.id ≡ number)) }
+        ensures lost { IfOk result (λ b. Holds an_agent (Some b.value) (λ a. HasLost a self.old self.new)) }
+        ensures numbered { IfOk result (λ b. Holds an_agent (Some b.value) (λ a. a.account.id ≡ number)) }
         ensures err { IfErr result (IsNotReturned number self.old) }
         ensures kept { OnErr result (self.new ≡ self.old) }
     {
@@ -145,7 +150,12 @@ impl Store {
         };
         let part = self.parts.remove(at);
         self.journal = None;
-        *made = Content::Agent(OwnedAgent { shared, part });
+        let spare = Transaction::empty(alloc);
+        *made = Content::Agent(OwnedAgent {
+            shared,
+            part,
+            spare,
+        });
         Ok(made)
     }
 }
@@ -169,7 +179,7 @@ pub fn check_out(alloc: Global, store: &mut Slot, number: u32, agent: &mut Slot)
 
 /// Do what `asm_close` does.
 pub fn close(alloc: Global, store: &mut Slot, number: &mut u32) -> Result<(), Code>
-    ensures answers { MatchResult result (λ done. (number.new ≡ 0) × Closes (content_of store.old) (content_of store.new))
+    ensures answers { MatchResult result (λ done. (number.new ≡ 0) × Changes a_store (content_of store.old) (content_of store.new) HasClosed)
         (IsNotClosed (content_of store.old) number.new) }
     ensures kept { OnErr result (content_of store.new ≡ content_of store.old) }
 {
@@ -194,8 +204,8 @@ pub fn close(alloc: Global, store: &mut Slot, number: &mut u32) -> Result<(), Co
 
 /// Do what `asm_moves` does.
 pub fn moves(store: &mut Slot, moves: &mut u32) -> Result<(), Code>
-    ensures counted { MatchResult result (λ done. HoldsStore (content_of store.old) (λ s. moves.new ≤ length s.storage.row))
-        (λ c. (c ≡ Code.Empty) × HoldsNoStore (content_of store.old) × (moves.new ≡ 0)) }
+    ensures counted { MatchResult result (λ done. Holds a_store (content_of store.old) (λ s. moves.new ≤ length s.storage.row))
+        (λ c. (c ≡ Code.Empty) × Lacks a_store (content_of store.old) × (moves.new ≡ 0)) }
     ensures kept { content_of store.new ≡ content_of store.old }
 {
     *moves = 0;
@@ -206,8 +216,8 @@ pub fn moves(store: &mut Slot, moves: &mut u32) -> Result<(), Code>
 
 /// Do what `asm_journal` does.
 pub fn journal(store: &mut Slot, out: &mut [u8], written: &mut usize) -> Result<(), Code>
-    ensures text { IsWritten (λ text. HoldsStore (content_of store.old) (λ s. s.journal ≡ Some text))
-        (EmptyOr (HoldsNoStore (content_of store.old)) (λ c. (c ≡ Code.NoJournal) × HoldsStore (content_of store.old) (λ s. s.journal ≡ None)))
+    ensures text { IsWritten (λ text. Holds a_store (content_of store.old) (λ s. s.journal ≡ Some text))
+        (EmptyOr (Lacks a_store (content_of store.old)) (λ c. (c ≡ Code.NoJournal) × Holds a_store (content_of store.old) (λ s. s.journal ≡ None)))
         out.old out.new written.new result }
     ensures kept { content_of store.new ≡ content_of store.old }
 {

@@ -2,7 +2,7 @@
 ghost use Rattle.std.specs.Prelude.{◌≡◌, ◌∷◌, ◌++◌, [], IfErr, MatchResult, OnErr, OnOk, Some, IfOk, None};
 ghost use Rattle.asm_slots.specs.Kinds.{IsInstructed};
 ghost use Rattle.asm_slots.specs.Answers.{IsNoRoomFor, IsNotAppended, IsNotGathered, IsNotInstructed, IsNotPrepared, IsNotUnited, IsUnreadAs};
-ghost use Rattle.asm_slots.specs.Slots.{HasRoomForMove, HoldsLocation, HoldsMove, content_of, move_of};
+ghost use Rattle.asm_slots.specs.Slots.{HasRoomFor, Holds, a_location, a_move, content_of, move_of};
 ghost use Rattle.asm_slots.specs.declared.content.Content.TheVariants as content;
 ghost use Rattle.asm_journal.specs.Element.{IsLocationForm};
 ghost use Rattle.asm_slots.specs.Bytes.{ReadAsLocation};
@@ -75,8 +75,8 @@ pub fn instruct(
     bytes: &[u8],
     amount: u32,
 ) -> Result<(), Code>
-    ensures answers { MatchResult result (λ done. HasRoomForMove (content_of instrs.old)
-        × HoldsLocation (content_of at.old) (λ l. HoldsMove (content_of instrs.new)
+    ensures answers { MatchResult result (λ done. HasRoomFor a_move (content_of instrs.old)
+        × Holds a_location (content_of at.old) (λ l. Holds a_move (content_of instrs.new)
         (IsInstructed l verb kind number bytes.now amount (move_of (content_of instrs.old)))))
         (IsNotInstructed (content_of at.old) (content_of instrs.old) verb kind number bytes.now amount) }
     ensures kept { OnErr result (content_of instrs.new ≡ content_of instrs.old) }
@@ -99,7 +99,7 @@ pub fn instruct(
 
 // Append the instructions of the move in the slot.
 fn append_all(gathered: &mut Instructions, other: &mut Slot) -> Result<(), Code>
-    ensures room { OnOk result (HasRoomForMove (content_of other.old)) }
+    ensures room { OnOk result (HasRoomFor a_move (content_of other.old)) }
     ensures done { OnOk result (gathered.new ≡ gathered.old ++ move_of (content_of other.old)) }
     ensures err { IfErr result (IsNotAppended gathered.old (content_of other.old)) }
     ensures kept { OnErr result (gathered.new ≡ gathered.old) }
@@ -118,8 +118,8 @@ fn append_all(gathered: &mut Instructions, other: &mut Slot) -> Result<(), Code>
 // Put a move of the other's instructions into an empty slot.
 fn unite_first(alloc: Global, instrs: &mut Slot, other: &mut Slot) -> Result<(), Code>
     requires { content_of instrs.old ≡ None }
-    ensures room { OnOk result (HasRoomForMove (content_of other.old)) }
-    ensures done { OnOk result (HoldsMove (content_of instrs.new) (λ united. united ≡ move_of (content_of other.old))) }
+    ensures room { OnOk result (HasRoomFor a_move (content_of other.old)) }
+    ensures done { OnOk result (Holds a_move (content_of instrs.new) (λ united. united ≡ move_of (content_of other.old))) }
     ensures err { IfErr result (IsNotAppended [] (content_of other.old)) }
     ensures kept { OnErr result (content_of instrs.new ≡ content_of instrs.old) }
     ensures held { content_of other.new ≡ content_of other.old }
@@ -141,8 +141,8 @@ fn unite_first(alloc: Global, instrs: &mut Slot, other: &mut Slot) -> Result<(),
 /// Do what `asm_unite` does.
 #[tactic(auto, using(crate::proofs::Refused::not_united))]
 pub fn unite(alloc: Global, instrs: &mut Slot, other: &mut Slot) -> Result<(), Code>
-    ensures answers { MatchResult result (λ done. HasRoomForMove (content_of instrs.old) × HasRoomForMove (content_of other.old)
-        × HoldsMove (content_of instrs.new) (λ united. united ≡ move_of (content_of instrs.old) ++ move_of (content_of other.old)))
+    ensures answers { MatchResult result (λ done. HasRoomFor a_move (content_of instrs.old) × HasRoomFor a_move (content_of other.old)
+        × Holds a_move (content_of instrs.new) (λ united. united ≡ move_of (content_of instrs.old) ++ move_of (content_of other.old)))
         (IsNotUnited (content_of instrs.old) (content_of other.old)) }
     ensures kept { OnErr result (content_of instrs.new ≡ content_of instrs.old) }
     ensures held { content_of other.new ≡ content_of other.old }
@@ -173,7 +173,7 @@ fn read_location(alloc: Global, bytes: &[u8]) -> Result<Location, Code>
 #[tactic(auto, using(crate::proofs::Refused::not_prepared))]
 pub fn prepare(alloc: Global, location: &[u8], at: &mut Slot) -> Result<(), Code>
     ensures answers { MatchResult result
-        (λ done. (content_of at.old ≡ None) × HoldsLocation (content_of at.new) (ReadAsLocation location.now))
+        (λ done. (content_of at.old ≡ None) × Holds a_location (content_of at.new) (ReadAsLocation location.now))
         (IsNotPrepared (content_of at.old) location.now) }
     ensures kept { OnErr result (content_of at.new ≡ content_of at.old) }
 {

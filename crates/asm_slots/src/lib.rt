@@ -1,10 +1,11 @@
-//! Slots that hold a storage, an agent, a step, a location, a move or an audit: the base of the calls of the library
-//! for C.
+//! Slots that hold a storage, an agent, a step, a location, a move, an audit or a run: the base of the calls of the
+//! library for C.
 //!
 //! A slot is in the memory of the caller; one of zeros holds nothing. Each agent owns a share of its storage, so slots
 //! may be released in any order. Texts are those of journals. Each call returns a code.
 #![tactic(auto)]
 
+mod agent_steps;
 mod audit;
 pub mod auditing;
 mod closed_journal;
@@ -12,6 +13,7 @@ pub mod codes;
 pub mod committing;
 pub mod composing;
 mod content;
+pub mod counting;
 mod explaining;
 pub mod getting_all;
 pub mod giving;
@@ -30,6 +32,8 @@ pub mod pushing;
 mod raw_box;
 pub mod read_and_fire;
 mod reading_scans;
+mod run;
+pub mod running;
 mod shared;
 mod slot;
 pub mod steps;
@@ -46,6 +50,7 @@ pub use explaining::explain;
 pub use owned_agent::OwnedAgent;
 pub use pushing::PushMode;
 pub use read_and_fire::Numbers;
+pub use run::{Run, RunNumbers, Segment};
 pub use shared::{Shared, are_one};
 pub use slot::Slot;
 pub use store::Store;

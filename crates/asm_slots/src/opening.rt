@@ -3,7 +3,7 @@ ghost use Rattle.std.specs.Prelude.{◌≡◌, length, MatchResult, OnErr, OnOk}
 ghost use Rattle.std.specs.Bool.{OnTrue, OnFalse};
 ghost use Rattle.asm_slots.specs.AgentCalls.{IsNoCapacity};
 ghost use Rattle.asm_slots.specs.NextStore.{DoesNotGoOn, GoesOn, IsNextOf, IsNotNext, IsNotOpened, Opens};
-ghost use Rattle.asm_slots.specs.Slots.{AreEmpty, HoldsStore, content_of};
+ghost use Rattle.asm_slots.specs.Slots.{AreEmpty, Holds, a_store, content_of};
 ghost use Rattle.asm_slots.specs.Store.{IsNew};
 
 use crate::codes::Code;
@@ -27,7 +27,7 @@ fn hold_store(
     capacity: u32,
 ) -> Result<(), AllocError>
     requires { length storage.row ≡ capacity }
-    ensures held { OnOk result (HoldsStore (content_of slot.new) (IsNew storage)) }
+    ensures held { OnOk result (Holds a_store (content_of slot.new) (IsNew storage)) }
     ensures kept { OnErr result (content_of slot.new ≡ content_of slot.old) }
 {
     let shared = Arc::new(alloc, Shared::new(storage, capacity))?;

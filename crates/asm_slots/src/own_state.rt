@@ -4,7 +4,7 @@ ghost use Rattle.asm_slots.specs.AgentAnswers.{DoesNotValidate, Validates};
 ghost use Rattle.asm_slots.specs.Answers.{EmptyOr, IsMemory, IsNoName, IsUnreadAs};
 ghost use Rattle.asm_slots.specs.OwnState.{DoesNotFollow, Follows};
 ghost use Rattle.asm_slots.specs.OwnState.{IsOwnOfName, IsOwnState, IsPeek, IsPeekOf, IsStaleText, values_text};
-ghost use Rattle.asm_slots.specs.Slots.{Holds, HoldsNoAgent, content_of};
+ghost use Rattle.asm_slots.specs.Slots.{Holds, Lacks, an_agent, content_of};
 ghost use Rattle.asm_slots.specs.StepAnswers.{DoesNotPeekAt, IsNoValue, PeeksAt};
 ghost use Rattle.asm_explain.specs.Bytes.{AreLocations};
 ghost use Rattle.asm_slots.specs.WrittenText.{IsWritten};
@@ -64,8 +64,8 @@ pub fn own_state(
     out: &mut [u8],
     written: &mut usize,
 ) -> Result<(), Code>
-    ensures text { IsWritten (λ text. Holds (content_of agent.old) (λ a. IsOwnState a number.new text))
-        (λ c. (number.new ≡ 0) × EmptyOr (HoldsNoAgent (content_of agent.old)) IsMemory c)
+    ensures text { IsWritten (λ text. Holds an_agent (content_of agent.old) (λ a. IsOwnState a number.new text))
+        (λ c. (number.new ≡ 0) × EmptyOr (Lacks an_agent (content_of agent.old)) IsMemory c)
         out.old out.new written.new result }
     ensures kept { content_of agent.new ≡ content_of agent.old }
 {
@@ -110,8 +110,8 @@ pub fn scan(
     out: &mut [u8],
     written: &mut usize,
 ) -> Result<(), Code>
-    ensures text { IsWritten (λ text. Holds (content_of agent.old) (λ a. IsOwnOfName name.now a number.new text))
-        (λ c. (number.new ≡ 0) × EmptyOr (HoldsNoAgent (content_of agent.old)) (IsNoName name.now) c)
+    ensures text { IsWritten (λ text. Holds an_agent (content_of agent.old) (λ a. IsOwnOfName name.now a number.new text))
+        (λ c. (number.new ≡ 0) × EmptyOr (Lacks an_agent (content_of agent.old)) (IsNoName name.now) c)
         out.old out.new written.new result }
     ensures kept { content_of agent.new ≡ content_of agent.old }
 {
@@ -207,8 +207,8 @@ pub fn peek(
     out: &mut [u8],
     written: &mut usize,
 ) -> Result<(), Code>
-    ensures text { IsWritten (λ text. Holds (content_of agent.old) (λ a. IsPeekOf locations.now a text))
-        (EmptyOr (HoldsNoAgent (content_of agent.old)) (IsUnreadAs AreLocations locations.now))
+    ensures text { IsWritten (λ text. Holds an_agent (content_of agent.old) (λ a. IsPeekOf locations.now a text))
+        (EmptyOr (Lacks an_agent (content_of agent.old)) (IsUnreadAs AreLocations locations.now))
         out.old out.new written.new result }
     ensures kept { content_of agent.new ≡ content_of agent.old }
 {

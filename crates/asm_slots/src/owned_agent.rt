@@ -17,10 +17,6 @@ ghost use Rattle.asm_slots.specs.Standard.{meaning};
 ghost use Rattle.asm_slots.specs.AgentAnswers.{is_any_over, is_any_above};
 ghost use Rattle.asm_slots.specs.OwnState.{HasPolledOn};
 ghost use Rattle.asm_slots.specs.AgentCalls.{HasAnswered, HasLearnt, HasPolled, IsLastText, IsRepliedOver, SeesOn};
-ghost use Rattle.asm_transaction.specs.Commit.{Commits, IsOneFire};
-ghost use Rattle.asm_transaction.specs.Reading.{IsOf};
-ghost use Rattle.asm_transaction.specs.Record.{Records};
-ghost use Rattle.asm_transaction.specs.View.{new_transaction};
 
 use crate::shared::Shared;
 use asm_aggregate::Standard;
@@ -34,11 +30,13 @@ use std::alloc::{AllocError, Global};
 use std::marker::Model;
 use std::sync::Arc;
 
-/// A share of a storage, and the part of one of its agents.
+/// A share of a storage, and the part of one of its agents, with the memory of its last step.
 #[derive(Drop)]
 pub struct OwnedAgent {
     pub(crate) shared: Arc<Shared>,
     pub(crate) part: AgentPart,
+    // Empty: the next step begins in its memory.
+    pub(crate) spare: Transaction,
 }
 
 impl Model for OwnedAgent {
@@ -79,7 +77,12 @@ impl OwnedAgent {
         let shared = Arc::try_clone(shared)?;
         let agent = shared.storage.agent_at(alloc, id)?;
         let part = agent.into_part();
-        Ok(OwnedAgent { shared, part })
+        let spare = Transaction::empty(alloc);
+        Ok(OwnedAgent {
+            shared,
+            part,
+            spare,
+        })
     }
 
     /// Return the share of the storage.
@@ -110,11 +113,22 @@ impl OwnedAgent {
         ensures unread { IfErr result.1 (HasPolledFor self result.0) }
         ensures many { IsErrOf result.1 ManyLocations ↔ (reads_limit < length locations.now) }
     {
-        let OwnedAgent { shared, part } = self;
+        let OwnedAgent {
+            shared,
+            part,
+            spare,
+        } = self;
         let mut agent = Agent::of(&shared.storage, part);
         let answer = agent.read(alloc, locations);
         let part = agent.into_part();
-        (OwnedAgent { shared, part }, answer)
+        (
+            OwnedAgent {
+                shared,
+                part,
+                spare,
+            },
+            answer,
+        )
     }
 
     /// Fire the move.
@@ -152,41 +166,6 @@ impl OwnedAgent {
             instrs,
             &mut || {},
         )
-    }
-
-    /// Begin a transaction, after a poll until no move is left.
-    pub(crate) fn begin(&mut self, alloc: Global) -> Result<Transaction, AllocError>
-        ensures same { IsSameAgent self.old self.new }
-        ensures polled { HasPolledOn self.old self.new }
-        ensures seen { SeesOn self.old self.new }
-        ensures begun { IfOk result (λ t. t ≡ new_transaction (length self.new.account.seen)) }
-        ensures stands { OnOk result (length self.new.account.seen ≡ self.new.number) }
-        ensures of { IfOk result (IsOf meaning self.new) }
-    {
-        Transaction::begin_in(alloc, &self.shared.storage, &mut self.part)
-    }
-
-    /// Commit the transaction.
-    pub(crate) fn commit(
-        &mut self,
-        alloc: Global,
-        transaction: &Transaction,
-    ) -> Result<Reply, FireError>
-        ensures commits { IsOf meaning self.old transaction.now → Commits meaning self.old self.new transaction.now result }
-        ensures once { IsOneFire meaning self.old self.new transaction.now result }
-    {
-        transaction.commit_in(alloc, &self.shared.storage, &mut self.part)
-    }
-
-    /// Record what the transaction has read, and commit it.
-    pub(crate) fn commit_recorded(
-        &mut self,
-        alloc: Global,
-        transaction: &Transaction,
-    ) -> Result<Reply, FireError>
-        ensures { Records meaning self.old self.new transaction.now result }
-    {
-        transaction.commit_recorded_in(alloc, &self.shared.storage, &mut self.part)
     }
 
     /// Return its storage's aggregator.
@@ -234,11 +213,22 @@ impl OwnedAgent {
         ensures unread { IfErr result.1 (HasPolledFor self result.0) }
         ensures many { IsErrOf result.1 ManyLocations ↔ (reads_limit < length reads.now) }
     {
-        let OwnedAgent { shared, part } = self;
+        let OwnedAgent {
+            shared,
+            part,
+            spare,
+        } = self;
         let mut agent = Agent::of(&shared.storage, part);
         let stale = agent.stands(alloc, reads);
         let part = agent.into_part();
-        (OwnedAgent { shared, part }, stale)
+        (
+            OwnedAgent {
+                shared,
+                part,
+                spare,
+            },
+            stale,
+        )
     }
 
     /// Return its number, below 256.
@@ -289,11 +279,22 @@ impl OwnedAgent {
         ensures same { result.0 ≡ self }
         ensures mark { result.1 ≡ record { row = self.storage.row; seen = self.account.seen } }
     {
-        let OwnedAgent { shared, part } = self;
+        let OwnedAgent {
+            shared,
+            part,
+            spare,
+        } = self;
         let agent = Agent::of(&shared.storage, part);
         let mark = agent.mark(alloc).unwrap();
         let part = agent.into_part();
-        (OwnedAgent { shared, part }, mark)
+        (
+            OwnedAgent {
+                shared,
+                part,
+                spare,
+            },
+            mark,
+        )
     }
 
     /// Learn what the mark holds.
@@ -301,11 +302,19 @@ impl OwnedAgent {
         requires { mark.now.row ≡ self.storage.row }
         ensures { HasLearnt mark.now.seen self result }
     {
-        let OwnedAgent { shared, part } = self;
+        let OwnedAgent {
+            shared,
+            part,
+            spare,
+        } = self;
         let mut agent = Agent::of(&shared.storage, part);
         agent.learn(alloc, mark).unwrap();
         let part = agent.into_part();
-        OwnedAgent { shared, part }
+        OwnedAgent {
+            shared,
+            part,
+            spare,
+        }
     }
 
     /// Learn what another agent of the storage has seen, and take its newer state.
@@ -329,11 +338,22 @@ impl OwnedAgent {
         ensures same { result.0 ≡ self }
         ensures reported { IfOk result.1 (λ o. IsLastText self (option_map string_bytes o)) }
     {
-        let OwnedAgent { shared, part } = self;
+        let OwnedAgent {
+            shared,
+            part,
+            spare,
+        } = self;
         let agent = Agent::of(&shared.storage, part);
         let answer = last_answer(alloc, &agent);
         let part = agent.into_part();
-        (OwnedAgent { shared, part }, answer)
+        (
+            OwnedAgent {
+                shared,
+                part,
+                spare,
+            },
+            answer,
+        )
     }
 }
 

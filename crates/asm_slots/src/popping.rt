@@ -4,7 +4,7 @@
 ghost use Rattle.std.specs.Bool.{OnFalse, OnTrue};
 ghost use Rattle.std.specs.Prelude.{◌≡◌, IfErr, MatchResult, OnErr, OnOk};
 ghost use Rattle.asm_slots.specs.Popping.{HasPoppedLast, IsNotPoppedIn, IsNotPoppedInto, IsUnpopped, IsUnpoppedMove};
-ghost use Rattle.asm_slots.specs.Slots.{ChangesStep, HasRoomForMove, HoldsMove, content_of};
+ghost use Rattle.asm_slots.specs.Slots.{Changes, HasRoomFor, Holds, a_move, a_step, content_of};
 ghost use Rattle.asm_slots.specs.Standard.{standard};
 ghost use Rattle.asm_transaction.specs.Popping.{HasPoppedMove};
 
@@ -19,8 +19,8 @@ use std::alloc::Global;
 // Return whether the slot is empty or holds a move.
 fn has_room_for_move(slot: &mut Slot) -> bool
     ensures kept { content_of slot.new ≡ content_of slot.old }
-    ensures yes { OnTrue result (HasRoomForMove (content_of slot.old)) }
-    ensures no { OnFalse result (¬ HasRoomForMove (content_of slot.old)) }
+    ensures yes { OnTrue result (HasRoomFor a_move (content_of slot.old)) }
+    ensures no { OnFalse result (¬ HasRoomFor a_move (content_of slot.old)) }
 {
     let Some(held) = slot.as_mut() else {
         return true;
@@ -44,7 +44,7 @@ fn pop_in(alloc: Global, step: &mut Transaction) -> Result<(), Code>
 #[tactic(auto, using(crate::proofs::Refused::not_popped_in))]
 pub fn pop(alloc: Global, step: &mut Slot) -> Result<(), Code>
     ensures answers { MatchResult result
-        (λ done. ChangesStep (content_of step.old) (content_of step.new) HasPoppedLast)
+        (λ done. Changes a_step (content_of step.old) (content_of step.new) HasPoppedLast)
         (IsNotPoppedIn (content_of step.old)) }
     ensures kept { OnErr result (content_of step.new ≡ content_of step.old) }
 {
@@ -55,7 +55,7 @@ pub fn pop(alloc: Global, step: &mut Slot) -> Result<(), Code>
 
 #[tactic(auto, using(crate::proofs::Refused::not_composed))]
 fn pop_into(alloc: Global, step: &mut Transaction, instrs: &mut Slot) -> Result<(), Code>
-    ensures popped { OnOk result (HoldsMove (content_of instrs.new) (HasPoppedMove standard step.old step.new)) }
+    ensures popped { OnOk result (Holds a_move (content_of instrs.new) (HasPoppedMove standard step.old step.new)) }
     ensures err { IfErr result (IsUnpoppedMove step.old) }
     ensures kept { OnErr result (step.new ≡ step.old) }
     ensures held { OnErr result (content_of instrs.new ≡ content_of instrs.old) }
@@ -72,8 +72,8 @@ fn pop_into(alloc: Global, step: &mut Transaction, instrs: &mut Slot) -> Result<
 /// Do what `asm_pop_move` does.
 #[tactic(auto, using(crate::proofs::Refused::not_popped_into))]
 pub fn pop_move(alloc: Global, step: &mut Slot, instrs: &mut Slot) -> Result<(), Code>
-    ensures answers { MatchResult result (λ done. HasRoomForMove (content_of instrs.old)
-        × ChangesStep (content_of step.old) (content_of step.new) (λ s t. HoldsMove (content_of instrs.new)
+    ensures answers { MatchResult result (λ done. HasRoomFor a_move (content_of instrs.old)
+        × Changes a_step (content_of step.old) (content_of step.new) (λ s t. Holds a_move (content_of instrs.new)
         (HasPoppedMove standard s t)))
         (IsNotPoppedInto (content_of step.old) (content_of instrs.old)) }
     ensures kept { OnErr result (content_of step.new ≡ content_of step.old) }

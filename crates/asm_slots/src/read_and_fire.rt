@@ -4,7 +4,7 @@ ghost use Rattle.asm_slots.specs.AgentAnswers.{AreScans, Fires, FiresOver, IsNot
 ghost use Rattle.asm_slots.specs.AgentCalls.{IsLastAnswer, ReportsFire, no_numbers};
 ghost use Rattle.asm_slots.specs.Answers.{EmptyOr, IsMemory};
 ghost use Rattle.asm_slots.specs.Bytes.{AreMisread, IsFireForm};
-ghost use Rattle.asm_slots.specs.Slots.{Holds, HoldsNoAgent, content_of};
+ghost use Rattle.asm_slots.specs.Slots.{Holds, Lacks, an_agent, content_of};
 ghost use Rattle.asm_slots.specs.WrittenText.{IsWritten};
 
 use crate::codes::{Code, write};
@@ -50,9 +50,9 @@ pub fn last_answer(
     out: &mut [u8],
     written: &mut usize,
 ) -> Result<(), Code>
-    ensures text { IsWritten (λ text. Holds (content_of agent.old) (λ a. IsLastAnswer a.account.receipts text))
-        (EmptyOr (HoldsNoAgent (content_of agent.old))
-        (λ c. IsMemory c ⊎ ((c ≡ Code.NoAnswer) × Holds (content_of agent.old) (λ a. a.account.receipts ≡ []))))
+    ensures text { IsWritten (λ text. Holds an_agent (content_of agent.old) (λ a. IsLastAnswer a.account.receipts text))
+        (EmptyOr (Lacks an_agent (content_of agent.old))
+        (λ c. IsMemory c ⊎ ((c ≡ Code.NoAnswer) × Holds an_agent (content_of agent.old) (λ a. a.account.receipts ≡ []))))
         out.old out.new written.new result }
     ensures kept { content_of agent.new ≡ content_of agent.old }
 {

@@ -3,7 +3,7 @@ ghost use Rattle.std.specs.Prelude.{◌≡◌, ◌∷◌, [], string_bytes, IfEr
 ghost use Rattle.std.specs.Bool.{OnFalse, OnTrue};
 ghost use Rattle.asm_slots.specs.Kinds.{bytes_of};
 ghost use Rattle.asm_slots.specs.OwnState.{Begins, DoesNotBegin};
-ghost use Rattle.asm_slots.specs.Slots.{ChangesStep, HasRoomForStep, content_of};
+ghost use Rattle.asm_slots.specs.Slots.{Changes, HasRoomFor, a_step, content_of};
 ghost use Rattle.asm_slots.specs.Standard.{meaning};
 ghost use Rattle.asm_slots.specs.StepAnswers.{DoesNotGetAt, GetsAt, IsNoValue, ShowsBoth, ShowsNoText};
 ghost use Rattle.asm_slots.specs.StepCalls.{AreSeen, Errs, HasReached, HasTrackedBy, IsBytesSeen, IsNotGot, IsNotSeen, IsSeenBy, IsValueSeen};
@@ -26,8 +26,8 @@ use std::alloc::Global;
 // Return whether the slot is empty or holds a step.
 fn has_room(slot: &mut Slot) -> bool
     ensures kept { content_of slot.new ≡ content_of slot.old }
-    ensures yes { OnTrue result (HasRoomForStep (content_of slot.old)) }
-    ensures no { OnFalse result (¬ HasRoomForStep (content_of slot.old)) }
+    ensures yes { OnTrue result (HasRoomFor a_step (content_of slot.old)) }
+    ensures no { OnFalse result (¬ HasRoomFor a_step (content_of slot.old)) }
 {
     let Some(held) = slot.as_mut() else {
         return true;
@@ -129,7 +129,7 @@ pub fn get(
 ) -> Result<(), Code>
     ensures answers { MatchResult result
         (λ done. ShowsBoth (IsSeenBy locations.now) (content_of agent.old) (content_of step.old) out.old out.new written.new
-        × ChangesStep (content_of step.old) (content_of step.new) (HasTrackedBy locations.now))
+        × Changes a_step (content_of step.old) (content_of step.new) (HasTrackedBy locations.now))
         (ShowsNoText (IsSeenBy locations.now) (IsNotGot locations.now) (content_of agent.old) (content_of step.old)
         out.old out.new written.new) }
     ensures stays { OnErr result (content_of step.new ≡ content_of step.old) }

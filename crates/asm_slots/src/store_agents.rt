@@ -7,7 +7,7 @@ ghost use Rattle.asm_storage.specs.Limits.{agents_limit};
 ghost use Rattle.asm_storage.specs.Storage.{at_start};
 ghost use Rattle.asm_slots.specs.AgentCalls.{HasMade};
 ghost use Rattle.asm_slots.specs.MadeAgents.{MakesAgent, MakesAgents, MakesNoAgent, MakesNoAgents, is_any_below, was_any_made, was_made};
-ghost use Rattle.asm_slots.specs.Slots.{AreEmpty, AreNew, Holds, content_of};
+ghost use Rattle.asm_slots.specs.Slots.{AreEmpty, AreNew, Holds, an_agent, content_of};
 
 use crate::codes::Code;
 use crate::content::Content;
@@ -23,7 +23,7 @@ use std::sync::Arc;
 
 fn agent_of(alloc: Global, shared: &Arc<Shared>, id: u32) -> Result<Box<Content>, AllocError>
     requires { id < agents_limit }
-    ensures { IfOk result (λ b. Holds (Some b.value) (λ a. a ≡ at_start (arc_value shared.now).storage id)) }
+    ensures { IfOk result (λ b. Holds an_agent (Some b.value) (λ a. a ≡ at_start (arc_value shared.now).storage id)) }
 {
     let agent = OwnedAgent::at_start(alloc, shared, id)?;
     Ok(Box::new(alloc, Content::Agent(agent))?)
@@ -80,7 +80,7 @@ impl Store {
     // Make an agent, and record its number.
     fn add_agent(&mut self, alloc: Global, id: u32) -> Result<Box<Content>, AllocError>
         requires { id < agents_limit }
-        ensures agent { IfOk result (λ b. Holds (Some b.value) (λ a. a ≡ at_start self.old.storage id)) }
+        ensures agent { IfOk result (λ b. Holds an_agent (Some b.value) (λ a. a ≡ at_start self.old.storage id)) }
         ensures made { OnOk result (HasMade (id ∷ []) self.old self.new) }
         ensures kept { OnErr result (self.new ≡ self.old) }
     {

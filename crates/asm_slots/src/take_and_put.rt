@@ -2,7 +2,7 @@
 ghost use Rattle.std.specs.Prelude.{◌≡◌, IfErr, IfNone, IfOk, IfSome, None, OnErr, Some};
 ghost use denote.Param.Send.{IsSend};
 ghost use Rattle.asm_slots.specs.Answers.{AreNotTwo};
-ghost use Rattle.asm_slots.specs.Slots.{AreOfOneStorage, HoldsNoAgent, HoldsNoStore, content_of};
+ghost use Rattle.asm_slots.specs.Slots.{AreOfOneStorage, Lacks, a_store, an_agent, content_of};
 ghost use Rattle.asm_slots.specs.contracts.content.Content.{the_row as content_row};
 ghost use Rattle.asm_slots.specs.declared.content.Content.TheVariants as content;
 
@@ -36,7 +36,7 @@ pub(crate) fn put_shell(slot: &mut Slot, shell: Box<Content>)
 pub(crate) fn take_agent(alloc: Global, slot: &mut Slot) -> Option<(Box<Content>, OwnedAgent)>
     ensures some { IfSome result (λ p. content_of slot.old ≡ Some (content.Agent p.1)) }
     ensures none { IfNone result (content_of slot.new ≡ content_of slot.old) }
-    ensures other { IfNone result (HoldsNoAgent (content_of slot.old)) }
+    ensures other { IfNone result (Lacks an_agent (content_of slot.old)) }
 {
     let mut shell = take_shell(alloc, slot)?;
     match std::mem::replace(&mut *shell, Content::Nothing) {
@@ -113,7 +113,7 @@ pub(crate) fn take_agents(
 pub(crate) fn take_store(alloc: Global, slot: &mut Slot) -> Option<(Box<Content>, Store)>
     ensures some { IfSome result (λ p. content_of slot.old ≡ Some (content.Store p.1)) }
     ensures none { IfNone result (content_of slot.new ≡ content_of slot.old) }
-    ensures other { IfNone result (HoldsNoStore (content_of slot.old)) }
+    ensures other { IfNone result (Lacks a_store (content_of slot.old)) }
 {
     let mut shell = take_shell(alloc, slot)?;
     match std::mem::replace(&mut *shell, Content::Nothing) {

@@ -7,7 +7,7 @@ use Rattle.asm_slots.proofs.read_and_fire.fire_in.Goals as goal
 pub returns : goal.returns
 returns c =
     let fire = c.in_ok-fire.fire in
-    let fired = c.fire-2 in
+    let fired = c.fire in
     let seen = length c.args.agent.now.account.seen in
     let tried : HasTriedFire c.args.call.now fired.result c.args.agent.now fired.new.self = record {
       reads = c.in_ok-reads.reads;
