@@ -1,8 +1,9 @@
 //! What the program says on standard error.
 ghost use Rattle.std.specs.Prelude.{◌≢◌, IfOk, IsNone};
 
+use crate::folder::{audit_run, segment_files};
 use crate::hints::hint;
-use crate::input::{Opened, Recorder, Unreadable, open};
+use crate::input::{Opened, Recorder, RunFolder, Unreadable, open, open_segments};
 use crate::output::Output;
 use crate::words::{Invocation, NoRequest, TextKind, read_words};
 use crate::wrong::wrong_answer;
@@ -176,27 +177,119 @@ fn run_on<R: Runtime + AllocGlobal + Threads + Wait + Sync, I: Read + Drop>(
     status
 }
 
-// Refuse a folder, of which nothing is read, and return the status.
-fn refuse_folder<R: Runtime + AllocGlobal + Threads + Wait + Sync>(
+// Return what is wrong with a segment, by the end of the line that reports it.
+fn segment_reason(line: &[u8]) -> Option<&'static str> {
+    const REASONS: [(&[u8], &str); 6] = [
+        (b" damaged\n", "it isn't the text that was saved"),
+        (b" missing\n", "a segment before it is missing"),
+        (b" twice\n", "another file has the same number"),
+        (b" misnamed\n", "this is no name of a segment"),
+        (
+            b" misplaced\n",
+            "its name has another FIRST or PREVIOUS than the segments before it",
+        ),
+        (
+            b" miscounted\n",
+            "its name has other MOVES or EVENTS than its text",
+        ),
+    ];
+    for (end, reason) in REASONS {
+        if line.starts_with(b"segment ") && line.ends_with(end) {
+            return Some(reason);
+        }
+    }
+    None
+}
+
+// Write why the audit of a folder ended so: where it was, and what is wrong there.
+fn print_folder_reason<R: Eprint>(rt: &R, alloc: Global, name: &str, file: &str, line: &[u8]) {
+    if file.is_empty() {
+        return print_line(rt, name, "it has no file that ends in .journal");
+    }
+    let Ok(file) = shown_text(alloc, file) else {
+        return;
+    };
+    let reason = if line.is_empty() {
+        "can't be read"
+    } else if line == b"input too large\n".as_slice() {
+        LONG_LINE
+    } else {
+        segment_reason(line).unwrap_or(
+            "refused; standard output has the segment and its line or call",
+        )
+    };
+    let _written = eprintln!(rt; "asm_driver: {name}: {file}: {reason}");
+}
+
+// Audit the run in a folder, and return the status.
+fn audit_folder<R: Runtime + AllocGlobal + Threads + Wait + Sync>(
+    rt: &R,
+    alloc: Global,
+    every: u32,
+    name: &str,
+    folder: RunFolder<'_, R>,
+    names: &[String],
+) -> u8 {
+    let mut folder = folder;
+    let ended = audit_run(rt, alloc, every, names, &mut folder, &mut io::writer(rt));
+    if folder.has_failed || !ended.line.is_empty() {
+        let line = ended.line.as_bytes();
+        print_folder_reason(rt, alloc, name, folder.name.as_str(), line);
+    }
+    ended.status
+}
+
+// Say why a folder isn't read.
+fn print_unread<R: Eprint>(
+    rt: &R,
+    alloc: Global,
+    invocation: Invocation<'_>,
+    name: &str,
+    names: &[String],
+) -> Result<(), AllocError> {
+    if invocation.is_run() {
+        print_line(
+            rt,
+            name,
+            "its segments aren't those of a run; audit says which",
+        );
+        return Ok(());
+    }
+    let files = segment_files(alloc, names)?;
+    let first = match files.first() {
+        Some(first) => format!(in alloc; "{name}/{first}")?,
+        None => String::from_str(alloc, "none is there")?,
+    };
+    let first = shown_text(alloc, first.as_str())?;
+    let _written = eprintln!(rt;
+        "asm_driver: {name}: it is a folder; of a run audit takes all segments, and the other commands take one: {first}"
+    );
+    Ok(())
+}
+
+// Do what is asked for with a folder that has files of these names.
+fn run_on_folder<R: Runtime + AllocGlobal + Threads + Wait + Sync>(
     rt: &R,
     alloc: Global,
     invocation: Invocation<'_>,
     words: Vec<String>,
     name: &str,
-    first: Option<String>,
-) -> u8 {
-    let first = match &first {
-        Some(first) => first.as_str(),
-        None => "none is there",
-    };
-    if invocation.is_run() {
-        print_line(rt, name, "a segment is missing, or is there twice");
-    } else if let Ok(first) = shown_text(alloc, first) {
-        let _written = eprintln!(rt;
-            "asm_driver: {name}: it is a folder; of a run audit takes all segments, and the other commands take one: {first}"
-        );
+    folder: RunFolder<'_, R>,
+    names: Vec<String>,
+) -> Result<u8, NoRequest> {
+    if invocation.command == "audit" {
+        let every = invocation.every;
+        return Ok(audit_folder(rt, alloc, every, name, folder, names.as_slice()));
     }
-    run_main(rt, alloc, words, &mut Unreadable, &mut io::writer(rt))
+    if invocation.is_window {
+        match open_segments(alloc, folder, names.as_slice()) {
+            Ok(Some(run)) => return Ok(run_on(rt, alloc, invocation, words, name, run)),
+            Ok(None) => {}
+            Err(_) => return Err(NoRequest::Memory),
+        }
+    }
+    print_unread(rt, alloc, invocation, name, names.as_slice())?;
+    Ok(run_main(rt, alloc, words, &mut Unreadable, &mut io::writer(rt)))
 }
 
 // Do what is asked for with the file or the folder of this name.
@@ -209,10 +302,11 @@ fn run_on_file<R: Runtime + AllocGlobal + Threads + Wait + Sync>(
 ) -> Result<u8, NoRequest> {
     let name = shown_text(alloc, path)?;
     let name = name.as_str();
-    match open(rt, alloc, path, invocation.is_run()) {
+    match open(rt, alloc, path) {
         Ok(Opened::File(file)) => Ok(run_on(rt, alloc, invocation, words, name, file)),
-        Ok(Opened::Run(segments)) => Ok(run_on(rt, alloc, invocation, words, name, segments)),
-        Ok(Opened::Folder(first)) => Ok(refuse_folder(rt, alloc, invocation, words, name, first)),
+        Ok(Opened::Folder(folder, names)) => {
+            run_on_folder(rt, alloc, invocation, words, name, folder, names)
+        }
         Err(error) if error.kind() == ErrorKind::NotFound => Err(NoRequest::Wrong(format!(in alloc;
             "asm_driver: {name}: there is no such file\n"
         )?)),

@@ -2,10 +2,17 @@
 ghost use Rattle.std.specs.Prelude.{◌≤◌, length, vec_len, IfSome};
 
 use crate::diagnostics::INPUT_LIMIT;
+use crate::folder::segment_files;
+use asm_play::aggregator::script_aggregator;
+use asm_run::RunReader;
 use std::alloc::Global;
 use std::io::{ErrorKind, Read};
 use std::rt::{Files, Runtime};
+use std::sync::Wait;
 use std::{fs, io};
+
+// Number of bytes of names that are read at once.
+const CHUNK: usize = 4096;
 
 /// An input, with the first bytes that were read of it.
 #[derive(Drop)]
@@ -69,28 +76,73 @@ impl<I: Read> Read for Recorder<I> {
     }
 }
 
+/// The files of a folder.
+#[derive(Drop)]
+pub(crate) struct RunFolder<'r, R: Files> {
+    rt: &'r R,
+    alloc: Global,
+    path: String,
+    file: Option<R::File>,
+    /// The name of the file that was opened last; it is empty before the first one.
+    pub(crate) name: String,
+    /// Whether it couldn't be read.
+    pub(crate) has_failed: bool,
+}
+
+impl<'r, R: Files> RunFolder<'r, R> {
+    fn new(rt: &'r R, alloc: Global, path: String) -> RunFolder<'r, R> {
+        RunFolder {
+            rt,
+            alloc,
+            path,
+            file: None,
+            name: String::new(alloc),
+            has_failed: false,
+        }
+    }
+
+    /// Open the file of this name in place of the open one, and return its size.
+    pub(crate) fn open(&mut self, name: &str) -> io::Result<u64> {
+        self.file = None;
+        self.name = String::from_str(self.alloc, name)?;
+        let folder = self.path.as_str();
+        let path = format!(in self.alloc; "{folder}/{name}")?;
+        let size = regular_size(self.rt, path.as_str())?;
+        self.file = Some(fs::open(self.rt, path.as_str())?);
+        Ok(size)
+    }
+}
+
+impl<R: Files> Read for RunFolder<'_, R> {
+    fn read(&mut self, buf: &mut [u8]) -> io::Result<usize> {
+        match &mut self.file {
+            Some(file) => file.read(buf),
+            None => Ok(0),
+        }
+    }
+}
+
 /// The segments of a run's folder, one after the other.
 #[derive(Drop)]
 pub(crate) struct Segments<'r, R: Files> {
-    rt: &'r R,
-    file: R::File,
+    folder: RunFolder<'r, R>,
     // The segments after it, the last one first.
-    paths: Vec<String>,
+    names: Vec<String>,
 }
 
 impl<R: Files> Read for Segments<'_, R> {
     fn read(&mut self, buf: &mut [u8]) -> io::Result<usize> {
-        for _ in 0..self.paths.len() {
-            let count = self.file.read(buf)?;
+        for _ in 0..self.names.len() {
+            let count = self.folder.read(buf)?;
             if count > 0 {
                 return Ok(count);
             }
-            let Some(path) = self.paths.pop() else {
+            let Some(name) = self.names.pop() else {
                 return Ok(0);
             };
-            self.file = open_regular(self.rt, path.as_str())?;
+            let _size = self.folder.open(name.as_str())?;
         }
-        self.file.read(buf)
+        self.folder.read(buf)
     }
 }
 
@@ -108,80 +160,91 @@ impl Read for Unreadable {
 #[derive(Drop)]
 pub(crate) enum Opened<'r, R: Files> {
     File(R::File),
-    /// The segments of a run.
-    Run(Segments<'r, R>),
-    /// A folder that isn't read, with its first segment.
-    Folder(Option<String>),
+    /// A folder, with the names of its files.
+    Folder(RunFolder<'r, R>, Vec<String>),
 }
 
-// Open a regular file. Another one isn't opened, as a pipe would wait for its writer.
-fn open_regular<R: Files>(rt: &R, path: &str) -> io::Result<R::File> {
-    if !fs::metadata(rt, path)?.is_file() {
+// Return the size of a regular file. Another one isn't opened, as a pipe would wait for its writer.
+fn regular_size<R: Files>(rt: &R, path: &str) -> io::Result<u64> {
+    let metadata = fs::metadata(rt, path)?;
+    if !metadata.is_file() {
         return Err(io::Error::from(ErrorKind::InvalidInput));
     }
-    fs::open(rt, path)
+    Ok(metadata.len())
 }
 
-// Return the journals in the folder, the last one first.
-fn segments_in<R: Runtime + AllocGlobal>(
+// Return the name as a text. What isn't UTF-8 becomes a text that no segment has, with the same end.
+fn text_of(alloc: Global, name: &[u8]) -> io::Result<String> {
+    if let Ok(text) = std::str::from_utf8(name) {
+        return Ok(String::from_str(alloc, text)?);
+    }
+    let end = if name.ends_with(b".journal") {
+        "\u{fffd}.journal"
+    } else {
+        "\u{fffd}"
+    };
+    Ok(String::from_str(alloc, end)?)
+}
+
+// Return the names of all files in the folder.
+fn names_in<R: Runtime + AllocGlobal + Wait>(
     rt: &R,
     alloc: Global,
     folder: &str,
 ) -> io::Result<Vec<String>> {
-    let mut paths = Vec::new(alloc);
-    for entry in fs::read_dir(rt, folder)? {
-        let entry = match entry {
-            Ok(entry) => entry,
-            // A name that is no text is no segment's.
-            Err(error) if error.kind() == ErrorKind::InvalidFilename => continue,
-            Err(error) => return Err(error),
-        };
-        let path = entry.path();
-        if path.as_str().ends_with(".journal") {
-            paths.push(String::from_str(alloc, path.as_str())?)?;
+    let mut folder = rt.open_dir(folder)?;
+    let mut names = Vec::new(alloc);
+    let mut buffer = [0u8; CHUNK];
+    'chunks: for _ in rt.forever() {
+        let count = folder.read(&mut buffer)?;
+        if count == 0 {
+            return Ok(names);
+        }
+        for name in buffer[..count].split(|byte| *byte == 0) {
+            if !name.is_empty() {
+                names.push(text_of(alloc, name)?)?;
+            }
         }
     }
-    paths.sort()?;
-    paths.reverse();
-    Ok(paths)
+    unreachable!()
 }
 
-// Return the number at the beginning of a segment's name.
-fn number_of(path: &str) -> Option<usize> {
-    let name = path.rsplit('/').next()?;
-    let (number, _) = name.split_once('-')?;
-    number.parse::<usize>().ok()
-}
-
-// Return whether they are the segments from the last down to the first, each once.
-fn are_complete(paths: &[String]) -> bool {
-    for (index, path) in paths.iter().rev().enumerate() {
-        if number_of(path.as_str()) != Some(index) {
+// Return whether these are the names of a run's segments in order, as far as names say.
+fn are_chained(alloc: Global, names: &[String]) -> bool {
+    let mut reader = RunReader::new(alloc, script_aggregator());
+    for name in names {
+        if reader.name(alloc, name.as_str(), 0).is_err() || reader.skip().is_err() {
             return false;
         }
     }
-    !paths.is_empty()
+    !names.is_empty()
 }
 
-/// Open a file, or all segments of a run's folder.
-/// The segments are read only if a run is asked for, and only if each is there once.
-pub(crate) fn open<'r, R: Runtime + AllocGlobal>(
+/// Return the segments of a run, one after the other; `None` if the names aren't those of a run.
+pub(crate) fn open_segments<'r, R: Files>(
+    alloc: Global,
+    folder: RunFolder<'r, R>,
+    names: &[String],
+) -> io::Result<Option<Segments<'r, R>>> {
+    let mut names = segment_files(alloc, names)?;
+    if !are_chained(alloc, names.as_slice()) {
+        return Ok(None);
+    }
+    names.reverse();
+    Ok(Some(Segments { folder, names }))
+}
+
+/// Open a file, or list a folder.
+pub(crate) fn open<'r, R: Runtime + AllocGlobal + Wait>(
     rt: &'r R,
     alloc: Global,
     path: &str,
-    is_run: bool,
 ) -> io::Result<Opened<'r, R>> {
-    if !fs::metadata(rt, path)?.is_dir() {
-        return Ok(Opened::File(open_regular(rt, path)?));
+    if fs::metadata(rt, path)?.is_dir() {
+        let names = names_in(rt, alloc, path)?;
+        let path = String::from_str(alloc, path)?;
+        return Ok(Opened::Folder(RunFolder::new(rt, alloc, path), names));
     }
-    let mut paths = segments_in(rt, alloc, path)?;
-    let is_read = is_run && are_complete(paths.as_slice());
-    match paths.pop() {
-        Some(first) if is_read => Ok(Opened::Run(Segments {
-            rt,
-            file: open_regular(rt, first.as_str())?,
-            paths,
-        })),
-        first => Ok(Opened::Folder(first)),
-    }
+    let _size = regular_size(rt, path)?;
+    Ok(Opened::File(fs::open(rt, path)?))
 }

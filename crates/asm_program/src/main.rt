@@ -3,6 +3,7 @@
 #![tactic(auto)]
 
 mod diagnostics;
+mod folder;
 mod hints;
 mod input;
 mod output;
