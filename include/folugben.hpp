@@ -30,25 +30,35 @@
 
 #include <folugben.h>
 
+#include <fcntl.h>
+#include <sys/file.h>
+#include <sys/stat.h>
+#include <unistd.h>
+
 #include <algorithm>
 #include <array>
 #include <atomic>
+#include <cerrno>
 #include <charconv>
 #include <chrono>
 #include <compare>
 #include <concepts>
 #include <cstddef>
 #include <cstdint>
+#include <deque>
+#include <filesystem>
 #include <iterator>
 #include <map>
 #include <memory>
 #include <mutex>
 #include <new>
+#include <optional>
 #include <set>
 #include <span>
 #include <stdexcept>
 #include <string>
 #include <string_view>
+#include <system_error>
 #include <thread>
 #include <type_traits>
 #include <utility>
@@ -95,6 +105,15 @@ enum class [[nodiscard]] code : std::int32_t {
     many_calls = ASM_MANY_CALLS,
     long_line = ASM_LONG_LINE,
     long_move = ASM_LONG_MOVE,
+    name = ASM_NAME,
+    order = ASM_ORDER,
+    not_next = ASM_NOT_NEXT,
+    opening = ASM_OPENING,
+    previous = ASM_PREVIOUS,
+    damaged = ASM_DAMAGED,
+    counts = ASM_COUNTS,
+    long_run = ASM_LONG_RUN,
+    one_segment = ASM_ONE_SEGMENT,
 };
 
 // Returns what a code means, in a line of English.
@@ -973,6 +992,19 @@ class step {
     std::vector<entry> scan(std::string_view name) { return detail::entries(scan_json(name)); }
     // Returns the same as [PAIR, ..].
     std::string scan_json(std::string_view name);
+    // Returns whether a scan would list a location, at the cost of one. The step depends on the complete function.
+    bool any(std::string_view name);
+    [[nodiscard]] code try_any(std::string_view name, bool &any) noexcept {
+        std::uint32_t found = 0;
+        const code it{asm_any(get_agent(), slot_.get(), detail::bytes(name), name.size(), &found)};
+        any = found != 0;
+        return it;
+    }
+    // Returns how many locations a scan would list, and makes no list. The step depends on the complete function.
+    std::uint64_t count(std::string_view name);
+    [[nodiscard]] code try_count(std::string_view name, std::uint64_t &count) noexcept {
+        return code{asm_count(get_agent(), slot_.get(), detail::bytes(name), name.size(), &count)};
+    }
 
     // Pushes the move; `text` is that of a refusal, such as {"clash":[LOC,CAUSE]}.
     [[nodiscard]] code try_push(const instructions &move, std::string &text) noexcept;
@@ -1338,6 +1370,18 @@ inline std::string step::scan_json(std::string_view name) {
     return text;
 }
 
+inline bool step::any(std::string_view name) {
+    bool found = false;
+    detail::done(try_any(name, found));
+    return found;
+}
+
+inline std::uint64_t step::count(std::string_view name) {
+    std::uint64_t found = 0;
+    detail::done(try_count(name, found));
+    return found;
+}
+
 template <class Call, class ByText>
 code step::grow(Call call, ByText by_text, const instructions &move, std::string &text) noexcept try {
     // A move without instructions has no slot that holds it.
@@ -1634,6 +1678,220 @@ class auditor {
     detail::owned_slot<struct asm_audit> slot_;
     code fault_ = code::done;
     asm_audit_numbers at_{};
+};
+
+namespace detail {
+
+// A descriptor of the system, which is closed with it.
+class descriptor {
+  public:
+    explicit descriptor(int at = -1) noexcept : at_(at) {}
+    descriptor(descriptor &&other) noexcept : at_(std::exchange(other.at_, -1)) {}
+    descriptor &operator=(descriptor &&other) noexcept {
+        std::swap(at_, other.at_);
+        return *this;
+    }
+    ~descriptor() {
+        if (at_ >= 0) ::close(at_);
+    }
+    int get() const noexcept { return at_; }
+
+  private:
+    int at_;
+};
+
+// Throws a std::system_error of the present errno unless the call was done.
+inline void system_done(bool is_done, const std::string &what) {
+    if (!is_done) throw std::system_error(errno, std::generic_category(), what);
+}
+inline descriptor opened(int folder, const std::string &name, int flags) {
+    descriptor it(::openat(folder, name.c_str(), flags | O_CLOEXEC, 0600));
+    system_done(it.get() >= 0, name);
+    return it;
+}
+inline bool write_all(int file, std::string_view text) noexcept {
+    while (!text.empty()) {
+        const ssize_t written = ::write(file, text.data(), text.size());
+        if (written < 0 && errno == EINTR) continue;
+        if (written <= 0) return false;
+        text.remove_prefix(static_cast<std::size_t>(written));
+    }
+    return true;
+}
+
+} // namespace detail
+
+// What is saved of a run: the number of its oldest segment, how many segments there are with those that were dropped, how many
+// moves they have, and the digest of the last one.
+struct saved_run {
+    std::uint64_t first = 0, segments = 0, moves = 0;
+    std::string digest;
+};
+
+// A run in a folder, which one process has at a time: storages one after the other, each of which is saved as a segment. Agents
+// play in `part()`. No crash loses what `saved()` reports, if the disk keeps what it reports as flushed. It is used in one thread
+// at a time; the agents of a part are as those of any storage.
+//
+// A call of the system that fails throws a std::system_error. After a failed `flush` or `keep` nothing more is saved: they throw
+// code::order; `resume` goes on with what is saved.
+class run {
+  public:
+    // Makes a run with this opening state [PAIR, ..] in a folder without one; its parts have room for so many moves each. Throws
+    // std::errc::file_exists if a run is there, and resource_unavailable_try_again if another process has the folder.
+    static run open(const std::string &folder, std::string_view init, std::uint32_t moves = 100'000) {
+        storage first(init, moves);
+        run it(folder, moves, true);
+        if (it.read_all() != 0) throw std::system_error(EEXIST, std::generic_category(), folder);
+        it.save(first.close(), 0, 0);
+        it.part_.emplace(first.next(moves));
+        return it;
+    }
+    // Goes on with the run in the folder, each segment of which is read and audited. Throws `audit_error` with the number of the
+    // segment that isn't the one that was saved (code::name, not_next, opening, previous, damaged or counts) or isn't legal, and
+    // std::errc::no_such_file_or_directory if no run is there.
+    static run resume(const std::string &folder, std::uint32_t moves = 100'000) {
+        run it(folder, moves, false);
+        if (it.read_all() == 0) throw std::system_error(ENOENT, std::generic_category(), folder);
+        std::string state;
+        detail::done(detail::text_of_call(
+            [&](auto *out, auto room, auto *written) { return asm_run_state(it.slot_.get(), out, room, written); }, state));
+        it.part_.emplace(state, moves);
+        return it;
+    }
+
+    // Returns the storage in which agents play now.
+    storage &part() {
+        if (!slot_ || !part_) detail::fail(code::empty, {});
+        return *part_;
+    }
+    // Saves what the agents of the part did, all of which must be destroyed, and goes on in the next part; nothing if they did
+    // nothing. Throws `missing` if an agent that fired wasn't returned: then nothing was saved.
+    saved_run flush() {
+        std::string text = part().close();
+        const auto lines = static_cast<std::uint64_t>(std::count(text.begin(), text.end(), '\n'));
+        if (lines > 1) { // the first one is the header, and each other one an event
+            save(text, part().moves(), lines - 1);
+            part_.emplace(part().next(moves_));
+        }
+        return saved();
+    }
+    saved_run saved() const {
+        asm_run_numbers numbers{};
+        saved_run it;
+        detail::done(detail::text_of_call(
+            [&](auto *out, auto room, auto *written) { return asm_run_saved(slot_.get(), &numbers, out, room, written); },
+            it.digest));
+        it.first = numbers.first;
+        it.segments = numbers.segments;
+        it.moves = numbers.moves;
+        return it;
+    }
+    // Drops the oldest segments, one after the other, until at most so many are left, and at least one.
+    saved_run keep(std::uint64_t segments) {
+        while (names_.size() > std::max<std::uint64_t>(segments, 1)) {
+            std::uint64_t number = 0;
+            detail::done(code{asm_run_drop(slot_.get(), &number)});
+            work(names_.front(), {});
+            names_.pop_front();
+        }
+        return saved();
+    }
+
+  private:
+    run(const std::string &folder, std::uint32_t moves, bool makes) : moves_(moves) {
+        if (makes) detail::system_done(::mkdir(folder.c_str(), 0700) == 0 || errno == EEXIST, folder);
+        folder_ = detail::opened(AT_FDCWD, folder, O_RDONLY | O_DIRECTORY);
+        lock_ = detail::opened(folder_.get(), "lock", O_RDWR | O_CREAT | O_NOFOLLOW);
+        detail::system_done(::flock(lock_.get(), LOCK_EX | LOCK_NB) == 0, folder);
+        detail::done(code{asm_run_open(slot_.get())});
+        detail::system_done(::fsync(folder_.get()) == 0, folder);
+        detail::system_done(::fsync(detail::opened(folder_.get(), "..", O_RDONLY | O_DIRECTORY).get()) == 0, folder);
+        for (const auto &it : std::filesystem::directory_iterator(folder))
+            if (it.path().extension() == ".journal") names_.push_back(it.path().filename().string());
+        std::sort(names_.begin(), names_.end());
+    }
+
+    // Reads the segments, and returns how many there are.
+    std::size_t read_all() {
+        std::uint64_t number = 0;
+        for (const std::string &name : names_) {
+            const detail::descriptor file = detail::opened(folder_.get(), name, O_RDONLY | O_NOFOLLOW);
+            struct stat status {};
+            detail::system_done(::fstat(file.get(), &status) == 0, name);
+            asm_segment found{};
+            const code it{asm_run_name(slot_.get(), detail::bytes(name), name.size(), static_cast<std::uint64_t>(status.st_size), &found)};
+            judge(it, number, {});
+            number = found.number;
+            read(file.get(), name);
+            asm_audit_numbers counts{};
+            judge(code{asm_run_end(slot_.get(), &counts)}, number, counts);
+            ++number;
+        }
+        detail::done(code{asm_run_read(slot_.get())});
+        return names_.size();
+    }
+    void read(int file, const std::string &name) {
+        std::vector<std::uint8_t> piece(1 << 16);
+        for (;;) {
+            const ssize_t count = ::read(file, piece.data(), piece.size());
+            if (count == 0) return;
+            if (count < 0 && errno == EINTR) continue;
+            detail::system_done(count > 0, name);
+            detail::done(code{asm_run_text(slot_.get(), piece.data(), static_cast<std::size_t>(count))});
+        }
+    }
+    // Throws for what is wrong with the segment of this number.
+    static void judge(code it, std::uint64_t number, asm_audit_numbers counts) {
+        if (it == code::memory) throw std::bad_alloc();
+        counts.parts = number;
+        if (it != code::done) throw audit_error(it, counts);
+    }
+
+    void save(const std::string &text, std::uint64_t moves, std::uint64_t events) {
+        std::string name;
+        detail::done(detail::text_of_call(
+            [&](auto *out, auto room, auto *written) {
+                return asm_run_hand(slot_.get(), moves, events, detail::bytes(text), text.size(), out, room, written);
+            },
+            name));
+        names_.push_back(name);
+        work(name, text);
+    }
+    // Makes each call of the system that the run asks for.
+    void work(const std::string &name, std::string_view text) {
+        std::int32_t request = 0;
+        for (;;) {
+            detail::done(code{asm_run_request(slot_.get(), &request)});
+            if (request == ASM_REST) return;
+            if (!make(request, name, text)) {
+                const int why = errno;
+                detail::done(code{asm_run_failed(slot_.get())});
+                ::unlinkat(folder_.get(), "new", 0);
+                throw std::system_error(why, std::generic_category(), name);
+            }
+            detail::done(code{asm_run_done(slot_.get())});
+        }
+    }
+    bool make(std::int32_t request, const std::string &name, std::string_view text) noexcept {
+        const int folder = folder_.get();
+        switch (request) {
+        case ASM_REMOVE_NEW: return ::unlinkat(folder, "new", 0) == 0 || errno == ENOENT;
+        case ASM_CREATE_NEW:
+            file_ = detail::descriptor(::openat(folder, "new", O_WRONLY | O_CREAT | O_EXCL | O_CLOEXEC, 0600));
+            return file_.get() >= 0;
+        case ASM_WRITE_NEW: return detail::write_all(file_.get(), text);
+        case ASM_FLUSH_NEW: return ::fsync(file_.get()) == 0;
+        case ASM_RENAME_NEW: return ::renameat(folder, "new", folder, name.c_str()) == 0;
+        case ASM_REMOVE_OLDEST: return ::unlinkat(folder, name.c_str(), 0) == 0;
+        default: return ::fsync(folder) == 0;
+        }
+    }
+
+    std::uint32_t moves_;
+    detail::descriptor folder_, lock_, file_;
+    detail::owned_slot<struct asm_run> slot_;
+    std::deque<std::string> names_;
+    std::optional<storage> part_;
 };
 
 } // namespace folugben

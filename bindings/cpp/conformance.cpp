@@ -308,6 +308,8 @@ class replayer {
         {"has", [this](const words &of) { return count(of) > 0 ? "true" : "false"; }},
         {"count_of", [this](const words &of) { return std::to_string(count(of)); }},
         {"size", [this](const words &of) { return std::to_string(step(of).size(folugben::location::of_json(of[1]))); }},
+        {"any", [this](const words &of) { return step(of).any(text(of[1])) ? "true" : "false"; }},
+        {"count", [this](const words &of) { return std::to_string(step(of).count(text(of[1]))); }},
         {"push", [this](const words &of) { return step(of).push_json(of[1]), "null"; }},
         {"extend", [this](const words &of) { return step(of).extend_json(of[1]), "null"; }},
         {"pop", [this](const words &of) { return step(of).pop(), "null"; }},

@@ -156,6 +156,11 @@ void elements_are_counted() {
     const auto text = REFUSED(folugben::error, step.has(s, "\xc3"));
     WANTED(text.code() == code::shape && std::string(text.what()).find("the text isn't UTF-8") != std::string::npos);
     WANTED(REFUSED(folugben::error, step.has(s, folugben::set{1})).code() == code::operand);
+    bool any = true;
+    WANTED(step.any("s") && !step.any("none") && step.count("s") == 1 && step.count("none") == 0);
+    WANTED(step.try_any("\xff", any) == code::shape && !any && step.try_count("\xff", size) == code::shape && size == 0);
+    WANTED(REFUSED(folugben::error, step.any("\xff")).code() == code::shape);
+    WANTED(agent.follow() == 0 && step.try_any("s", any) == code::done && any);
 }
 
 void conflicts_are_played_again() {
