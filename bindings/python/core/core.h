@@ -1,4 +1,4 @@
-/* The types of folugben that are written in C: storages, agents, steps, locations, moves and audits.
+/* The types of folugben that are written in C: storages, agents, steps, locations, moves, audits and runs in a folder.
  *
  * THE RULE. Each method has four parts, in this order: it makes C values of its arguments, which may run Python code; it checks
  * whether it may call; it calls the library; it makes Python values of the answer. From the second part to the end of the third
@@ -30,7 +30,7 @@ enum { FAR = 1024, LONG_TEXT = 16384 };
 enum { AGENTS = 256, CAPACITY = 1048576, LINE_LIMIT = 1073741824 };
 
 typedef struct {
-    PyTypeObject *storage, *agent, *step, *location, *move, *audit;
+    PyTypeObject *storage, *agent, *step, *location, *move, *audit, *run;
     PyObject *refusals; /* the module of Python whose functions raise errors */
     PyObject *counter;  /* collections.Counter */
     PyObject *no_rules; /* the types of what a function returns that is no rule: coroutines and generators */
@@ -289,6 +289,8 @@ PyObject *step_scan(Step *self, PyObject *it);
 PyObject *step_has(Step *self, PyObject *const *words, Py_ssize_t given);
 PyObject *step_count_of(Step *self, PyObject *const *words, Py_ssize_t given);
 PyObject *step_size(Step *self, PyObject *place);
+PyObject *step_any(Step *self, PyObject *name);
+PyObject *step_count(Step *self, PyObject *name);
 PyObject *step_push(Step *self, PyObject *it);
 PyObject *step_extend(Step *self, PyObject *it);
 PyObject *step_pop(Step *self, PyObject *it);
@@ -304,7 +306,7 @@ Step *begin_step(Agent *agent, PyTypeObject *type);
 int64_t fire_step(Step *self, int is_try);
 void step_drop(Step *self);
 
-extern PyType_Spec storage_spec, agent_spec, step_spec, location_spec, move_spec, audit_spec;
+extern PyType_Spec storage_spec, agent_spec, step_spec, location_spec, move_spec, audit_spec, run_spec;
 
 static inline int is_location(const Core *core, PyObject *it)
 {

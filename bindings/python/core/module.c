@@ -191,7 +191,7 @@ static int core_begin(PyObject *module)
         PyType_Spec *spec;
         PyTypeObject **type;
     } types[] = {{&storage_spec, &core->storage}, {&agent_spec, &core->agent}, {&step_spec, &core->step},
-        {&location_spec, &core->location}, {&move_spec, &core->move}, {&audit_spec, &core->audit}};
+        {&location_spec, &core->location}, {&move_spec, &core->move}, {&audit_spec, &core->audit}, {&run_spec, &core->run}};
     watch_forks();
     for (size_t k = 0; k < sizeof types / sizeof *types; k++) {
         *types[k].type = (PyTypeObject *)PyType_FromModuleAndSpec(module, types[k].spec, NULL);
@@ -218,6 +218,7 @@ static int core_traverse(PyObject *module, visitproc visit, void *arg)
     Py_VISIT(core->location);
     Py_VISIT(core->move);
     Py_VISIT(core->audit);
+    Py_VISIT(core->run);
     Py_VISIT(core->refusals);
     Py_VISIT(core->counter);
     Py_VISIT(core->no_rules);
@@ -234,6 +235,7 @@ static int core_clear(PyObject *module)
     Py_CLEAR(core->location);
     Py_CLEAR(core->move);
     Py_CLEAR(core->audit);
+    Py_CLEAR(core->run);
     Py_CLEAR(core->refusals);
     Py_CLEAR(core->counter);
     Py_CLEAR(core->no_rules);

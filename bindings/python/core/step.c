@@ -274,6 +274,10 @@ static PyMethodDef methods[] = {
     {"scan", (PyCFunction)step_scan, METH_O,
         "scan($self, name, /)\n--\n\nReturn each location with this function name and its value, as a list of pairs, ascending.\n\n"
         "The step then depends on the complete function: a write to any location of it makes the fire `StaleError`."},
+    {"any", (PyCFunction)step_any, METH_O,
+        "any($self, name, /)\n--\n\nReturn whether `scan` would list a location, at the cost of one. The step depends on the complete function."},
+    {"count", (PyCFunction)step_count, METH_O,
+        "count($self, name, /)\n--\n\nReturn how many locations `scan` would list, without a list. The step depends on the complete function."},
     {"push", (PyCFunction)step_push, METH_O,
         "push($self, instructions, /)\n--\n\n"
         "Push a move, which is fired with the others. A push that is refused, or popped, is a dry run.\n\n"

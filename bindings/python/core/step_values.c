@@ -192,6 +192,36 @@ PyObject *step_scan(Step *self, PyObject *name)
     return pairs;
 }
 
+/* Whether the function with this name has a value, or how many it has: NULL with an exception. */
+static PyObject *count_function(Step *self, PyObject *name, int is_any)
+{
+    Py_ssize_t len;
+    uint32_t any = 0;
+    uint64_t count = 0;
+    int32_t code;
+    Agent *agent = self->agent;
+    const uint8_t *text = name_of(self->holder.core, name, 1, &len);
+    if (!text || UNREADY(&agent->holder) || settle(self))
+        return NULL;
+    if (is_any)
+        code = asm_any(SLOT(agent), SLOT(self), text, (size_t)len, &any);
+    else
+        RUN(&agent->holder, 1, code = asm_count(SLOT(agent), SLOT(self), text, (size_t)len, &count));
+    if (ODD(code != ASM_DONE))
+        return refuse_step(self, code);
+    return is_any ? PyBool_FromLong(any) : PyLong_FromUnsignedLongLong(count);
+}
+
+PyObject *step_any(Step *self, PyObject *name)
+{
+    return count_function(self, name, 1);
+}
+
+PyObject *step_count(Step *self, PyObject *name)
+{
+    return count_function(self, name, 0);
+}
+
 /* Raises why a move isn't pushed. */
 PyObject *refuse_push(Step *self, int32_t code, const char *move, size_t len, Room *room)
 {

@@ -81,6 +81,7 @@ except ImportError as error:
     ) from error
 
 from ._auditor import Auditor, Counts
+from ._copies import copy_run, prune_run
 from ._core import Agent, Location, Move, Played, Step, Storage
 from ._errors import BadJournalError, BrokenError, BusyError, ClashError, CommitClashError, ConflictError
 from ._errors import DamagedError, DeepError, Error, FullError, LargeError, ManyError, MismatchError, MissingError, MovedError, OverError
@@ -105,6 +106,6 @@ __all__ = [
     "ConflictError", "Counts", "DamagedError", "DeepError", "DiffersError", "Element", "EndlessError", "Error", "Explored", "ForkedError",
     "FullError", "LargeError", "Location", "ManyError", "MismatchError", "MissingError", "Move", "MovedError", "NestedError", "OverError",
     "PastError", "Place", "Played", "Run", "RunAgent", "SharedAgent", "SharedRun", "StaleError", "Step", "Storage", "TextForm", "TooLongError",
-    "UnknownError", "Update", "Value", "aggregate", "audit", "check", "compose", "error_text", "explain", "explore", "import_run",
-    "interleave", "part", "replay", "states", "trace", "version",
+    "UnknownError", "Update", "Value", "aggregate", "audit", "check", "compose", "copy_run", "error_text", "explain", "explore", "import_run",
+    "interleave", "part", "prune_run", "replay", "states", "trace", "version",
 ]

@@ -11,7 +11,7 @@ from functools import partial
 from pathlib import Path
 from typing import BinaryIO, NoReturn, TextIO
 
-from . import __version__, audit, import_run, part, replay, trace
+from . import Counts, __version__, audit, copy_run, import_run, part, prune_run, replay, trace
 from ._errors import BadJournalError, DamagedError, Error
 from ._exports import verdict, write_csv, write_itf, write_page, write_perfetto
 from ._files import expect_other_output, open_regular, plain, replacing, shown
@@ -48,11 +48,11 @@ def _audit(file: str, _: int | None, out: TextIO) -> bool:
     """Check a file of any length, with one line in memory at a time."""
     progress = _Progress(file) if sys.stderr.isatty() else None
     try:
-        calls, moves, parts = audit(sys.stdin.buffer if file == "-" else file, progress)
+        counts = audit(sys.stdin.buffer if file == "-" else file, progress)
     except BadJournalError as bad:
         line = str(bad)
     else:
-        line = f"legal {calls} {moves} {parts}"
+        line = f"legal {_numbers(counts)}"
     finally:
         if progress is not None:
             progress.end()
@@ -60,9 +60,18 @@ def _audit(file: str, _: int | None, out: TextIO) -> bool:
     return line.startswith("legal")
 
 
+def _numbers(counts: Counts) -> str:
+    """Return such counts, and from where on they are, if the first segments of a run were dropped."""
+    calls, moves, parts = counts
+    since = f" from segment {counts.first_segment} move {counts.moves_before}" if counts.first_segment else ""
+    return f"{calls} {moves} {parts}{since}"
+
+
 def _verify(target: str, _: int | None, out: TextIO) -> bool:
-    last = verify(target)
-    out.write(f"{last.number + 1} segments, {last.end} moves, digest {last.digest}\n")
+    segments = verify(target)
+    first, last = segments[0], segments[-1]
+    since = f", from segment {first.number} move {first.first}" if first.number else ""
+    out.write(f"{len(segments)} segments, {last.end - first.first} moves, digest {last.digest}{since}\n")
     return True
 
 
@@ -74,8 +83,8 @@ def _save(target: str, _: int | None, out: TextIO) -> bool:
 
 def _follow(target: str, _: int | None, out: TextIO) -> bool:
     try:
-        for calls, moves, parts in follow(target):
-            out.write(f"legal so far {calls} {moves} {parts}\n")
+        for counts in follow(target):
+            out.write(f"legal so far {_numbers(counts)}\n")
             out.flush()
     except KeyboardInterrupt:
         pass
@@ -170,22 +179,45 @@ def _words() -> argparse.ArgumentParser:
             command.add_argument("--from", type=int, metavar="N", dest="first", default=0, help="the first state, counted from 0")
             command.add_argument("--to", type=int, metavar="N", dest="last", help="the last state")
         command.add_argument("-o", "--output", type=Path, metavar="FILE", help="write this file, once all is done, in place of standard output")
-    text = "import a run that is one file into a new folder"
-    command = commands.add_parser("import", help=text, description=text[0].upper() + text[1:] + ".")
-    command.add_argument("file", metavar="FILE")
-    command.add_argument("folder", metavar="FOLDER")
+    for name, (_, text, words) in ON_FOLDERS.items():
+        command = commands.add_parser(name, help=text, description=text[0].upper() + text[1:] + ".")
+        for word in words:
+            command.add_argument(word.lower(), metavar=word)
+        if name == "prune":
+            command.add_argument("--keep", type=int, metavar="N", required=True, help="how many segments stay, at least 1")
     return parser
 
 
-def _import(file: str, folder: str) -> int:
-    try:
-        counts, left = import_run(file, folder)
-    except BadJournalError as bad:
-        _warn(f"{file}: {bad}")
-        return 1
+def _import(arguments: argparse.Namespace) -> None:
+    counts, left = import_run(arguments.file, arguments.folder)
     print(f"{counts.moves} moves in {counts.parts} parts")
     if left:
-        _warn(f"{file}: {left:,} bytes of an incomplete last part were left out")
+        _warn(f"{arguments.file}: {left:,} bytes of an incomplete last part were left out")
+
+
+def _prune(arguments: argparse.Namespace) -> None:
+    print(f"legal {_numbers(prune_run(arguments.folder, arguments.keep))}")
+
+
+def _copy(arguments: argparse.Namespace) -> None:
+    print(f"legal {_numbers(copy_run(arguments.folder, arguments.to))}")
+
+
+# Commands that make a folder or change one, with the names of their arguments.
+ON_FOLDERS: dict[str, tuple[Callable[[argparse.Namespace], None], str, tuple[str, ...]]] = {
+    "import": (_import, "import a run that is one file into a new folder", ("FILE", "FOLDER")),
+    "prune": (_prune, "remove the first segments of a run, after an audit of those that stay", ("FOLDER",)),
+    "copy": (_copy, "copy the complete segments of a run, also while it is written, and audit them", ("FOLDER", "TO")),
+}
+
+
+def _work_on_folder(arguments: argparse.Namespace) -> int:
+    work, _, (word, *_) = ON_FOLDERS[arguments.command]
+    try:
+        work(arguments)
+    except (BadJournalError, DamagedError) as bad:
+        _warn(f"{getattr(arguments, word.lower())}: {bad}")
+        return 1
     return 0
 
 
@@ -231,12 +263,12 @@ def main(words: list[str] | None = None) -> int:
     """
     arguments = _words().parse_args(words)
     try:
-        if arguments.command == "import":
-            return _import(arguments.file, arguments.folder)
+        if arguments.command in ON_FOLDERS:
+            return _work_on_folder(arguments)
         if arguments.output is None:
             return _work_on(arguments, sys.stdout)
         return _write(arguments)
-    except OSError as fault:
+    except (OSError, ValueError) as fault:
         _warn(str(fault))
         return 2
 

@@ -8,12 +8,20 @@ from ._lines import LINE_LIMIT
 from ._texts import to_python
 
 
-class Counts(NamedTuple):
-    """Counts of an audit: the checked calls, the fired moves, and the complete parts."""
-
+class _Counts(NamedTuple):
     calls: int
     moves: int
     parts: int
+
+
+class Counts(_Counts):
+    """Counts of an audit: the checked calls, the fired moves, and the complete parts.
+
+    If the first segments of a run were dropped, the audit begins at `first_segment`, after `moves_before` moves.
+    """
+
+    first_segment = 0
+    moves_before = 0
 
 
 class Auditor(Audit):

@@ -1,85 +1,34 @@
-"""The folder of a run: one text file per segment, named with a chain of digests."""
+"""The folder of a run: one text file for each segment."""
 import contextlib
 import errno
 import fcntl
-import hashlib
 import os
 import pathlib
-import re
 import stat
 from collections.abc import Iterator
-from typing import NamedTuple
+from enum import IntEnum
 
-from ._errors import DamagedError
+from ._errors import DamagedError, expect
 from ._files import open_regular
+from ._library import Code
+from ._segments import START, SUFFIX, DroppedError, Segment, Trail
 
 # How many bytes of a file are read at once.
 CHUNK = 1 << 20
-# The chain's value before the first segment's digest.
-NO_DIGEST = "0" * 64
-_NEW, _LOCK, _SUFFIX = "new", "lock", ".journal"
-_NUMBER, _DIGEST = "(0|[1-9][0-9]{0,19})", "([0-9a-f]{64})"
-_NAME = re.compile(rf"([0-9]{{8}})-{_NUMBER}-{_NUMBER}-{_NUMBER}-{_DIGEST}-{_DIGEST}\.journal")
+_NEW, _LOCK = "new", "lock"
 
 
-class Segment(NamedTuple):
-    """A complete segment.
+class Request(IntEnum):
+    """The call of the system that comes next, as the library says."""
 
-    `first` is the number of moves before it, `digest` that of the chain up to its end.
-    """
-
-    number: int
-    first: int
-    moves: int
-    events: int
-    digest: str
-
-    def name(self, previous: str) -> str:
-        """Return the name of its file, after the segment with the previous digest."""
-        return f"{self.number:08}-{self.first}-{self.moves}-{self.events}-{previous}-{self.digest}{_SUFFIX}"
-
-    @property
-    def end(self) -> int:
-        """The number of moves up to its end."""
-        return self.first + self.moves
-
-    def following(self, moves: int, events: int, text: memoryview) -> "Segment":
-        """Return the segment that comes next, with this text."""
-        bare = Segment(self.number + 1, self.end, moves, events, "")
-        digest = start_digest(bare, self.digest, len(text))
-        digest.update(text)
-        return bare._replace(digest=digest.hexdigest())
-
-    def named(self, name: str) -> "Segment":
-        """Return the segment that comes next, whose file has the name.
-
-        Raises:
-            DamagedError: it is no name of that segment.
-        """
-        found, wanted = _NAME.fullmatch(name), self.number + 1
-        number, first, moves, events = map(int, found.groups()[:4]) if found else (0, 0, 0, 0)
-        if found is None or max(first + moves, events) >= 1 << 64:
-            raise DamagedError(wanted, f"{name!r} is no name of a segment")
-        if number != wanted:
-            detail = f"another file has this number too: {name}" if number == self.number else "its file is missing"
-            raise DamagedError(min(number, wanted), detail)
-        if number == 0 and moves + events > 0:
-            raise DamagedError(0, "the opening segment has no event")
-        if first != self.end:
-            raise DamagedError(number, f"its name has FIRST {first}, and the segments before it have {self.end} moves")
-        if found[5] != self.digest:
-            raise DamagedError(number, "its name has another PREVIOUS than the digest of the segment before it")
-        return Segment(number, first, moves, events, found[6])
-
-
-# The end of a run that has no segment yet.
-START = Segment(-1, 0, 0, 0, NO_DIGEST)
-
-
-def start_digest(segment: Segment, previous: str, length: int) -> "hashlib._Hash":
-    """Return the digest of everything before the text of a segment."""
-    line = f"{previous} {segment.number} {segment.first} {segment.moves} {segment.events} {length}\n"
-    return hashlib.sha256(line.encode())
+    REST = 0
+    REMOVE_NEW = 1
+    CREATE_NEW = 2
+    WRITE_NEW = 3
+    FLUSH_NEW = 4
+    RENAME_NEW = 5
+    FLUSH_FOLDER = 6
+    REMOVE_OLDEST = 7
 
 
 class RunFolder:
@@ -96,39 +45,60 @@ class RunFolder:
             FileNotFoundError: there is none.
             DamagedError: the names aren't those of a run.
         """
-        names = [it for it in os.listdir(self._fd) if it.endswith(_SUFFIX)]
-        segments, last = [], START
-        for name in sorted(names):
-            last = last.named(name)
-            segments.append(last)
-        if not segments:
-            raise FileNotFoundError(errno.ENOENT, "the folder has no run", str(self.path))
-        return segments
+        while names := self._names():
+            try:
+                return Trail().skip(names)
+            except DamagedError:
+                # Another process may have saved and dropped some while they were listed.
+                if names == self._names():
+                    raise
+        raise FileNotFoundError(errno.ENOENT, "the folder has no run", str(self.path))
 
-    def text(self, segment: Segment, previous: str) -> Iterator[bytes]:
-        """Yield the text of a segment, after the one with the previous digest.
+    def names(self) -> list[str]:
+        """Return the names that are there now, also if they aren't those of a run: whoever takes them finds the first fault.
 
         Raises:
-            DamagedError: the text isn't the one that was saved; raised at the end of the text at the latest.
+            FileNotFoundError: there is none.
         """
         try:
-            file = open_regular(segment.name(previous), self._fd)
+            return [it.name for it in self.segments()]
+        except DamagedError:
+            if names := self._names():
+                return names
+            raise
+
+    def _names(self) -> list[str]:
+        return sorted(it for it in os.listdir(self._fd) if it.endswith(SUFFIX))
+
+    def length(self, name: str) -> int:
+        """Return how many bytes the text of the segment with a name has."""
+        with self._no_file(name):
+            return os.stat(name, dir_fd=self._fd, follow_symlinks=False).st_size
+
+    def text(self, name: str) -> Iterator[bytes]:
+        """Yield the text of the segment with a name, which isn't checked."""
+        with self._no_file(name):
+            file = open_regular(name, self._fd)
+        with file:
+            while chunk := file.read(CHUNK):
+                yield chunk
+
+    @contextlib.contextmanager
+    def _no_file(self, name: str) -> Iterator[None]:
+        """Report a segment whose file can't be opened as one."""
+        try:
+            yield
         except FileNotFoundError:
-            raise DamagedError(segment.number, "its file is missing") from None
+            number = Trail().name(name).number
+            if any(number < Trail().name(it).number for it in self._names()[:1]):
+                raise DroppedError(number, "it was dropped meanwhile, so begin again") from None
+            raise DamagedError(number, "its file is missing") from None
         except OSError as error:
             if error.errno not in (errno.EINVAL, errno.EISDIR, errno.ELOOP, errno.ENXIO):
                 raise
-            raise DamagedError(segment.number, "its file is no regular file") from None
-        with file:
-            length = os.fstat(file.fileno()).st_size
-            digest = start_digest(segment, previous, length)
-            while chunk := file.read(CHUNK):
-                digest.update(chunk)
-                yield chunk
-        if digest.hexdigest() != segment.digest:
-            raise DamagedError(segment.number, "its text isn't the one that was saved")
+            raise DamagedError(Trail().name(name).number, "its file is no regular file") from None
 
-    def unsaved_journals(self, last: Segment) -> list[bytes]:
+    def unsaved(self, last: Segment) -> list[tuple[Segment, bytes]]:
         """Return what is after the last segment: nothing."""
         return []
 
@@ -150,17 +120,19 @@ class RunWriter(RunFolder):
 
     def __init__(self, path: pathlib.Path) -> None:
         super().__init__(path)
-        self._lock, self.last = -1, START
-        # The name of the last segment's file, and what it was when it was written or found.
-        self._file: tuple[str, os.stat_result] | None = None
+        self._lock = self._new = -1
+        # What was read and saved.
+        self.trail = Trail()
+        # What the file of the last segment was when it was written or found.
+        self._last_file: os.stat_result | None = None
         try:
             if os.fstat(self._fd).st_uid != os.geteuid():
                 raise PermissionError(errno.EPERM, "the folder belongs to another user", str(path))
             self._lock = os.open(_LOCK, os.O_RDWR | os.O_CREAT | os.O_CLOEXEC | os.O_NOFOLLOW, 0o600, dir_fd=self._fd)
             fcntl.flock(self._lock, fcntl.LOCK_EX | fcntl.LOCK_NB)
             self._expect_unmoved()
-            # An earlier, killed run may have renamed files: its work is flushed before it is reported.
-            os.fsync(self._fd)
+            # An earlier, killed run may have renamed files: the folder is flushed before it is read.
+            self._make(self.trail.core.request(), "")
             sync_folder(self.path.parent)
         except BaseException as error:
             self.close()
@@ -184,6 +156,7 @@ class RunWriter(RunFolder):
         writer = cls(real)
         try:
             _expect_empty(real)
+            writer.begin()
             writer.save(opening, 0, 0)
         except BaseException:
             writer.close()
@@ -191,70 +164,117 @@ class RunWriter(RunFolder):
         return writer
 
     @classmethod
-    def resume(cls, path: str | os.PathLike[str]) -> tuple["RunWriter", list[Segment]]:
+    def resume(cls, path: str | os.PathLike[str]) -> tuple["RunWriter", list[str]]:
         """Open an earlier run to continue it.
 
-        Return it with its segments, of which no text was read.
+        Return it with the names in its folder, which its trail has to take before it begins to save.
 
         Raises:
             FileNotFoundError: there is no run.
             BlockingIOError: another run uses the folder.
-            DamagedError: the names aren't those of a run.
             OSError: the path is a link, or the folder belongs to another user.
         """
         with RunFolder(_unlinked(path)) as folder:
-            folder.segments()  # nothing is created in a folder without a run
+            folder.names()  # nothing is created in a folder without a run
         writer = cls(folder.path)
         try:
-            segments = writer.segments()
-            before, writer.last = [START, *segments][-2:]
-            name = writer.last.name(before.digest)
-            writer._file = name, os.stat(name, dir_fd=writer._fd, follow_symlinks=False)
-            writer._drop_new()
+            names = writer.names()
+            writer._last_file = os.stat(names[-1], dir_fd=writer._fd, follow_symlinks=False)
+            writer._remove_new()
         except BaseException:
             writer.close()
             raise
-        return writer, segments
+        return writer, names
+
+    def begin(self) -> None:
+        """Begin to save, after what its trail has taken."""
+        expect(self.trail.core.read())
+
+    @property
+    def last(self) -> Segment:
+        """The last segment that is saved."""
+        return self.trail.last
+
+    def saved(self) -> tuple[int, int]:
+        """Return how many segments and moves are on the disk, with those that were dropped."""
+        _, segments, moves, _ = self.trail.core.saved()
+        return segments, moves
 
     def save(self, text: memoryview, moves: int, events: int) -> None:
         """Save the next segment; it is on the disk when this returns.
 
         After an error nothing more may be saved.
         """
-        now = self.last.following(moves, events, text)
-        if now.number >= 10**8:
-            raise OSError(errno.EFBIG, "a run has at most 100,000,000 segments", str(self.path))
         self._expect_unmoved()
-        name, written = now.name(self.last.digest), self._write_new(text)
-        os.rename(_NEW, name, src_dir_fd=self._fd, dst_dir_fd=self._fd)
-        os.fsync(self._fd)
-        self.last, self._file = now, (name, written)
+        code, name = self.trail.core.hand(moves, events, text)
+        if code == Code.LONG_RUN:
+            raise OSError(errno.EFBIG, "a run has at most 100,000,000 segments, and less than 2^64 moves", str(self.path))
+        expect(code)
+        self._work(name, text)
+        self.trail.last = Segment(self.last.number + 1, self.last.end, moves, events, name)
+        self.trail.names[self.last.number] = name
         self._expect_unmoved()
 
-    def _write_new(self, text: memoryview) -> os.stat_result:
-        flags = os.O_WRONLY | os.O_CREAT | os.O_EXCL | os.O_CLOEXEC
-        self._drop_new()
-        fd = os.open(_NEW, flags, 0o600, dir_fd=self._fd)
+    def keep(self, most: int) -> None:
+        """Remove the oldest segments, one after the other, until there are at most so many."""
+        while len(self.trail.names) > most:
+            code, number = self.trail.core.drop()
+            expect(code)
+            self._work(self.trail.names.pop(number))
+
+    def _work(self, name: str, text: memoryview = memoryview(b"")) -> None:
+        """Make each call of the system that the library asks for.
+
+        They save a segment with this name and text, or drop the one with this name. After an error nothing more is done.
+        """
         try:
-            at = 0
-            while at < len(text):
-                written = os.write(fd, text[at:])
-                if written == 0:
-                    raise OSError(errno.EIO, "a write took no byte", str(self.path / _NEW))
-                at += written
-            os.fsync(fd)
-            return os.fstat(fd)
+            while request := self.trail.core.request():
+                self._make(request, name, text)
+                self.trail.core.done()
         except BaseException:
+            self.trail.core.failed()
             # The disk may be full of it.
             with contextlib.suppress(OSError):
-                self._drop_new()
+                self._remove_new()
             raise
         finally:
-            os.close(fd)
+            self._close_new()
 
-    def _drop_new(self) -> None:
+    def _make(self, request: int, name: str, text: memoryview = memoryview(b"")) -> None:
+        match request:
+            case Request.REMOVE_NEW:
+                self._remove_new()
+            case Request.CREATE_NEW:
+                flags = os.O_WRONLY | os.O_CREAT | os.O_EXCL | os.O_CLOEXEC
+                self._new = os.open(_NEW, flags, 0o600, dir_fd=self._fd)
+            case Request.WRITE_NEW:
+                self._write_new(text)
+            case Request.FLUSH_NEW:
+                os.fsync(self._new)
+                self._last_file = os.fstat(self._new)
+                self._close_new()
+            case Request.RENAME_NEW:
+                os.rename(_NEW, name, src_dir_fd=self._fd, dst_dir_fd=self._fd)
+            case Request.FLUSH_FOLDER:
+                os.fsync(self._fd)
+            case Request.REMOVE_OLDEST:
+                os.unlink(name, dir_fd=self._fd)
+
+    def _write_new(self, text: memoryview) -> None:
+        while text:
+            written = os.write(self._new, text)
+            if written == 0:
+                raise OSError(errno.EIO, "a write took no byte", str(self.path / _NEW))
+            text = text[written:]
+
+    def _remove_new(self) -> None:
         with contextlib.suppress(FileNotFoundError):
             os.unlink(_NEW, dir_fd=self._fd)
+
+    def _close_new(self) -> None:
+        if self._new >= 0:
+            new, self._new = self._new, -1
+            os.close(new)
 
     def _expect_unmoved(self) -> None:
         """Check that the path leads to this folder, with the lock and the last segment.
@@ -268,10 +288,9 @@ class RunWriter(RunFolder):
                 raise DamagedError(number, f"{self.path} was moved or replaced")
             if not _same(os.stat(_LOCK, dir_fd=self._fd, follow_symlinks=False), os.fstat(self._lock)):
                 raise DamagedError(number, f"the lock in {self.path} was replaced")
-            if self._file is not None:
-                name, known = self._file
-                found = os.stat(name, dir_fd=self._fd, follow_symlinks=False)
-                if not _same(found, known) or found.st_size != known.st_size:
+            if self._last_file is not None:
+                found = os.stat(self.last.name, dir_fd=self._fd, follow_symlinks=False)
+                if not _same(found, self._last_file) or found.st_size != self._last_file.st_size:
                     raise DamagedError(self.last.number, "its file was replaced, or has another size")
         except FileNotFoundError as error:
             raise DamagedError(number, f"{self.path}: what the run has written was removed") from error
@@ -317,7 +336,7 @@ def _expect_empty(path: pathlib.Path) -> None:
     if not stat.S_ISDIR(os.stat(path).st_mode):
         raise FileExistsError(errno.EEXIST, "there is a file", str(path))
     names = set(os.listdir(path)) - {_NEW, _LOCK}
-    if any(name.endswith(_SUFFIX) for name in names):
+    if any(name.endswith(SUFFIX) for name in names):
         raise FileExistsError(errno.EEXIST, "there is a run, which Run.resume continues", str(path))
     if names:
         raise FileExistsError(errno.EEXIST, "the folder isn't empty", str(path))

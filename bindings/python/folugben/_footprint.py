@@ -71,7 +71,7 @@ def _without_number(name: str, is_step: bool, answer: Any) -> Any:
         return answer[1]
     if name in _COMMITS:
         return answer > 0
-    return answer if name in ("get", "see", "has", "count_of", "size", "scan", "stands", "__getitem__") else None
+    return answer if name in ("get", "see", "has", "count_of", "size", "scan", "any", "count", "stands", "__getitem__") else None
 
 
 class RecordingPlayer(Player):
@@ -178,7 +178,7 @@ class RecordingPlayer(Player):
             self.now.read([places] if hasattr(places, "place") else places)
         elif name in ("has", "count_of", "size", "__getitem__"):
             self.now.read(words[:1])
-        elif name == "scan":
+        elif name in ("scan", "any", "count"):
             self._scanned += [*words, *named.values()]
             self.now.scans.update(self._scanned)
         answer = call(*words, **named)

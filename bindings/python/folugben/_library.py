@@ -46,6 +46,15 @@ class Code(IntEnum):
     MANY_CALLS = 33
     LONG_LINE = 34
     LONG_MOVE = 35
+    NAME = 36
+    ORDER = 37
+    NOT_NEXT = 38
+    OPENING = 39
+    PREVIOUS = 40
+    DAMAGED = 41
+    COUNTS = 42
+    LONG_RUN = 43
+    ONE_SEGMENT = 44
 
 
 class TextForm(IntEnum):

@@ -12,7 +12,7 @@ from ._database import Database, Source, connect, connect_to_read
 from ._errors import DamagedError, MismatchError
 from ._faults import database_errors
 from ._files import shown
-from ._folder import START, Segment, start_digest
+from ._segments import START, Segment, number_of, segment_after, segment_of
 from ._tables import FORMAT, SINCE, TABLES, expect, expect_call, expect_run, expect_segment, is_count
 
 # Text is compressed in pieces of this many bytes, each by itself.
@@ -122,21 +122,25 @@ class LogReader:
         segments, last = list[Segment](), START
         for row in self._run(f"{_SEGMENT} order by number"):
             expect_segment(row, last.number + 1)
-            segment = Segment(*row)
+            segment = segment_of(row, last)
             expect((segment.number, segment.first) == (last.number + 1, last.end), last.number + 1, "its row is missing, or has other numbers")
             segments.append(segment)
             last = segment
+        expect(bool(segments), 0, "its row is missing, or has other numbers")
         return segments
 
     def segment(self, number: int) -> Segment:
         """Return one segment."""
-        rows = self._run(f"{_SEGMENT} where number = ?", number)
-        expect(len(rows) == 1, number, "its row is missing")
-        expect_segment(rows[0], number)
-        return Segment(*rows[0])
+        rows = self._run(f"{_SEGMENT} where number between ? and ? order by number", number - 1, number)
+        expect(len(rows) == min(number, 1) + 1, number, "its row is missing")
+        segment = START
+        for row in rows:
+            expect_segment(row, number)
+            segment = segment_of(row, segment)
+        return segment
 
-    def segment_end(self, segment: Segment | None = None) -> tuple[Segment, Segment, int]:
-        """Return a segment, with the one before it, and the place at which it ended.
+    def segment_end(self, segment: Segment | None = None) -> tuple[Segment, int]:
+        """Return a segment, and the place at which it ended.
 
         Without a number it is the last segment.
         """
@@ -144,25 +148,24 @@ class LogReader:
         rows = self._run(f"select number, last_place from {{inside}}segment where number = {which}")
         expect(len(rows) == 1 and is_count(*rows[0]), 0, "the row of the last segment is missing, or has other numbers")
         ((number, place),) = rows
-        return self.segment(number), self.segment(number - 1) if number else START, place
+        return self.segment(number), place
 
-    def text(self, segment: Segment, previous: str) -> Iterator[bytes]:
-        """Yield the text of a segment.
+    def length(self, name: str) -> int:
+        """Return how many bytes the text of the segment with a name has."""
+        number = number_of(name)
+        rows = self._run("select length from {inside}segment where number = ?", number)
+        expect(len(rows) == 1 and is_count(*rows[0]), number, "its row is missing, or has other numbers")
+        return int(rows[0][0])
 
-        Raises:
-            DamagedError: the text isn't the one that was saved; raised at its end at the latest.
-        """
-        rows = self._run("select length from {inside}segment where number = ?", segment.number)
-        expect(len(rows) == 1 and is_count(*rows[0]), segment.number, "its row is missing, or has other numbers")
-        digest, place, length = start_digest(segment, previous, rows[0][0]), 0, 0
-        while length < rows[0][0]:
-            data = self._run("select data from {inside}piece where segment = ? and place = ?", segment.number, place)
+    def text(self, name: str) -> Iterator[bytes]:
+        """Yield the text of the segment with a name, of which only the pieces are checked."""
+        place, length, wanted, number = 0, 0, self.length(name), number_of(name)
+        while length < wanted:
+            data = self._run("select data from {inside}piece where segment = ? and place = ?", number, place)
             piece = _unpacked(data[0][0]) if data else b""
-            expect(bool(piece), segment.number, f"its piece {place} is missing or isn't the one that was saved")
-            digest.update(piece)
+            expect(bool(piece), number, f"its piece {place} is missing or isn't the one that was saved")
             yield piece
             place, length = place + 1, length + len(piece)
-        expect(digest.hexdigest() == segment.digest, segment.number, "its text isn't the one that was saved")
 
     def close(self) -> None:
         """Close the connection; closing again has no effect."""
@@ -213,7 +216,7 @@ class Log(LogReader):
         except FileExistsError:
             # Another process has made it meanwhile.
             self._make_or_join(opening, moves)
-        if opening is not None and START.following(0, 0, memoryview(opening(self.moves))) != self.segment(0):
+        if opening is not None and segment_after(START, 0, 0, opening(self.moves)) != self.segment(0):
             raise MismatchError(f"the run has another opening state: {shown(self.target)}")
 
     def _make_or_join(self, opening: Callable[[int], bytes] | None, moves: int) -> None:
@@ -229,7 +232,7 @@ class Log(LogReader):
         for statement in TABLES.split(";"):
             self._run(statement.replace("{blob}", self.database.blob))
         self._run("insert into {inside}run values (1, ?, ?, 0)", FORMAT, moves)
-        self._insert(START.following(0, 0, memoryview(opening)), opening, 0)
+        self._insert(segment_after(START, 0, 0, opening), opening, 0)
 
     def reconnect(self) -> None:
         """Connect again."""
@@ -266,7 +269,7 @@ class Log(LogReader):
 
     def _insert(self, segment: Segment, text: bytes, last_place: int) -> None:
         inside = self.database.inside
-        self.database.insert(f"{inside}segment", [(*segment, len(text), last_place)])
+        self.database.insert(f"{inside}segment", [(*segment[:4], segment.digest, len(text), last_place)])
         pieces = (zlib.compress(text[at : at + _PIECE], 1) for at in range(0, len(text), _PIECE))
         for place, piece in enumerate(pieces):
             self.database.insert(f"{inside}piece", [(segment.number, place, piece)])

@@ -57,14 +57,16 @@ _EVENTS = re.compile(rb'\{"agents":\d+,"capacity":\d+,"events":(\d+),')
 class Chain(LockHolder):
     """The parts of a run that aren't on the disk yet, and the thread that saves them."""
 
-    def __init__(self, folder: RunWriter, storage: Storage, moves: int, tries: int, every: float | None) -> None:
-        self._folder, self._moves, self._tries, self._every = folder, moves, tries, every
+    def __init__(
+        self, folder: RunWriter, storage: Storage, moves: int, tries: int, every: float | None, keep: int | None
+    ) -> None:
+        self._folder, self._moves, self._tries, self._every, self._keep = folder, moves, tries, every, keep
         # The lock itself is acquired, as a condition's own methods aren't safe for a signal handler that raises.
         lock = threading.RLock()
         self._changed = threading.Condition(lock)
         self._set_lock(lock)
         # How many parts and moves are on the disk.
-        self.saved = folder.last.number + 1, folder.last.end
+        self.saved = folder.saved()
         self._oldest = Part(self, *self.saved, moves, storage)
         self._fault: tuple[int, BaseException] | None = None
         self.is_closing = self._is_over = False
@@ -294,11 +296,14 @@ class Chain(LockHolder):
                 # An empty part after all others is none.
                 if part.has_ended() or int(events[1]) > 0:
                     self._folder.save(journal, moves, int(events[1]))
-                    self.saved = part.number + 1, part.base + moves
+                    self.saved = self._folder.saved()
                 journal.release()
                 self._release(part)
+                if self._keep is not None:
+                    part = None
+                    self._folder.keep(self._keep)
         except BaseException as error:
-            self._break(self._oldest.number if part is None else part.number, error)
+            self._break(self.saved[0] if part is None else part.number, error)
         finally:
             self._folder.close()
             _chains.discard(self)

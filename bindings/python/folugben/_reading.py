@@ -8,11 +8,11 @@ from typing import BinaryIO, Protocol
 
 from ._auditor import Auditor, Counts
 from ._database import is_server
-from ._errors import BadJournalError, DamagedError
 from ._files import open_regular
-from ._folder import CHUNK, START, RunFolder, Segment
+from ._folder import CHUNK, RunFolder
 from ._log import Behind, LogReader
-from ._replica import unsaved_journals
+from ._replica import unsaved
+from ._segments import START, DroppedError, Segment, Trail
 from ._sqlite import is_database
 
 # How the header of a part begins; no line of an event begins so.
@@ -33,15 +33,17 @@ class Store(Protocol):
     def segments(self) -> list[Segment]:
         """Return the segments that are there now."""
 
-    def text(self, segment: Segment, previous: str) -> Iterator[bytes]:
-        """Yield the text of a segment.
+    def names(self) -> list[str]:
+        """Return the names that are there now, which aren't checked."""
 
-        Raises:
-            DamagedError: it isn't the one that was saved.
-        """
+    def length(self, name: str) -> int:
+        """Return how many bytes the text of the segment with a name has."""
 
-    def unsaved_journals(self, last: Segment) -> list[bytes]:
-        """Return the journals of what is after a segment, and isn't saved as one.
+    def text(self, name: str) -> Iterator[bytes]:
+        """Yield the text of the segment with a name, which isn't checked."""
+
+    def unsaved(self, last: Segment) -> list[tuple[Segment, bytes]]:
+        """Return what is after a segment, and isn't saved as one, with the texts.
 
         Raises:
             Behind: further segments were saved.
@@ -73,79 +75,63 @@ class LogStore:
 
     def __init__(self, target: str | os.PathLike[str]) -> None:
         self._log = LogReader(target)
-        self.text, self.close = self._log.text, self._log.close
+        self.length, self.text, self.close = self._log.length, self._log.text, self._log.close
 
     def segments(self) -> list[Segment]:
         self._log.refresh()
         return self._log.segments()
 
-    def unsaved_journals(self, last: Segment) -> list[bytes]:
-        return unsaved_journals(self._log, last)
+    def names(self) -> list[str]:
+        return [it.name for it in self.segments()]
+
+    def unsaved(self, last: Segment) -> list[tuple[Segment, bytes]]:
+        return unsaved(self._log, last)
 
 
 class Reading:
-    """Reads a stored run segment by segment, and audits it."""
+    """Reads a stored run segment by segment, and audits it: the names, the digests and the journals, each byte once."""
 
-    def __init__(self, store: Store, progress: Callable[[int], None] | None = None) -> None:
-        self._store, self._progress = store, progress
-        self._auditor, self._fed_bytes = Auditor(), 0
-        # The last segment that was read.
-        self.last = START
+    def __init__(self, store: Store, progress: Callable[[int], None] | None = None, trail: Trail | None = None) -> None:
+        self._store, self._progress, self._fed_bytes = store, progress, 0
+        self.trail, self._counts = trail or Trail(), Counts(0, 0, 0)
 
-    def audit(self, segments: list[Segment]) -> Counts:
+    def audit(self, names: list[str]) -> Counts:
         """Audit the segments after those that were audited.
 
         Raises:
-            DamagedError: a text isn't the one that was saved, or has other numbers than its segment.
+            DamagedError: a name isn't that of the next segment, or its text isn't the one that was saved.
             BadJournalError: a text isn't legal.
+            DroppedError: a segment was dropped before it was audited.
         """
-        for segment in segments[self.last.number + 1 :]:
-            self._audit(segment)
-        return self._auditor.end()
+        if 0 <= self.trail.last.number < Trail().name(names[0]).number - 1:
+            raise DroppedError(self.trail.last.number + 1, "it was dropped meanwhile, so begin again")
+        for name in names:
+            if name > self.trail.last.name:
+                self._take(name, self._store.length(name), self._store.text(name))
+        return self._counts
 
     def audit_all(self) -> Counts:
         """Audit all that is stored."""
         while True:
-            counts = self.audit(self._store.segments())
+            self.audit(self._store.names())
             with contextlib.suppress(Behind):
-                for journal in self._store.unsaved_journals(self.last):
-                    counts = self._auditor.feed(journal)
-                return counts
+                for segment, text in self._store.unsaved(self.trail.last):
+                    self._take(segment.name, len(text), [text])
+                return self._counts
 
-    def audit_last(self, segments: list[Segment]) -> Counts:
-        """Audit only the last segment; the values before it are read from its chain."""
-        if len(segments) > 1:
-            self.last = segments[-2]
-        self._audit(segments[-1])
-        return self._auditor.end()
+    def audit_last(self, names: list[str], count: int = 1) -> Counts:
+        """Audit only the last segments, as many as are asked for; of those before them the names are checked."""
+        self.trail.skip(names[:-count])
+        return self.audit(names)
 
-    def state(self) -> bytes:
-        """Return the text of the state after what was audited."""
-        return self._auditor._state()
-
-    def __enter__(self) -> "Reading":
-        return self
-
-    def __exit__(self, *_: object) -> None:
-        self._auditor.free()
-
-    def _audit(self, segment: Segment) -> None:
-        for _ in self._store.text(segment, self.last.digest):
-            pass  # the digest comes first
-        before = self._auditor.counts
-        try:
-            for chunk in self._store.text(segment, self.last.digest):
-                self._auditor.feed(chunk)
-                self._fed_bytes += len(chunk)
-                if self._progress is not None:
-                    self._progress(self._fed_bytes)
-            calls, moves, parts = self._auditor.end()
-        except BadJournalError as bad:
-            bad.part = segment.number
-            raise
-        if (calls - before.calls, moves - before.moves, parts - before.parts) != (segment.events, segment.moves, 1):
-            raise DamagedError(segment.number, "its text has other numbers of moves or events than its name")
-        self.last = segment
+    def _take(self, name: str, length: int, text: Iterable[bytes]) -> None:
+        self.trail.name(name, length)
+        for chunk in text:
+            self.trail.core.text(chunk)
+            self._fed_bytes += len(chunk)
+            if self._progress is not None:
+                self._progress(self._fed_bytes)
+        self._counts = self.trail.end()
 
 
 def audit(run: str | os.PathLike[str] | Readable, progress: Callable[[int], None] | None = None) -> Counts:
@@ -160,13 +146,20 @@ def audit(run: str | os.PathLike[str] | Readable, progress: Callable[[int], None
     """
     if isinstance(run, (str, os.PathLike)):
         if is_stored_run(run):
-            with contextlib.closing(open_store(run)) as store, Reading(store, progress) as reading:
-                return reading.audit_all()
+            with contextlib.closing(open_store(run)) as store:
+                return _audit_store(store, progress)
         with open_regular(run) as file:
             return _audit_file(file, progress)
     if not hasattr(run, "read"):
         raise TypeError(f"audit takes a path or a file, and not {type(run).__name__!r}: feed bytes to an Auditor")
     return _audit_file(run, progress)
+
+
+def _audit_store(store: Store, progress: Callable[[int], None] | None) -> Counts:
+    while True:
+        # What was dropped meanwhile is no fault.
+        with contextlib.suppress(DroppedError):
+            return Reading(store, progress).audit_all()
 
 
 def _audit_file(file: Readable, progress: Callable[[int], None] | None) -> Counts:
@@ -181,21 +174,37 @@ def _audit_file(file: Readable, progress: Callable[[int], None] | None) -> Count
         return auditor.end()
 
 
-def verify(target: str | os.PathLike[str]) -> Segment:
-    """Check the digests of all segments of a run: return the last segment.
+def _checked(store: Store, segment: Segment) -> Iterator[bytes]:
+    """Yield the text of a segment, legal or not.
+
+    Raises:
+        DamagedError: it isn't the one that was saved; raised at its end at the latest.
+    """
+    trail = Trail()
+    trail.name(segment.name, store.length(segment.name))
+    for chunk in store.text(segment.name):
+        trail.core.text(chunk)
+        yield chunk
+    trail.end_unjudged()
+
+
+def verify(target: str | os.PathLike[str]) -> list[Segment]:
+    """Check the digests of all segments of a run: return the segments.
 
     The last segment has the digest of all.
 
     Raises:
         DamagedError: a text isn't the one that was saved.
     """
-    last = START
     with contextlib.closing(open_store(target)) as store:
-        for segment in store.segments():
-            for _ in store.text(segment, last.digest):
-                pass
-            last = segment
-    return last
+        while True:
+            with contextlib.suppress(DroppedError):
+                trail, segments = Trail(), list[Segment]()
+                for name in store.names():
+                    segments += trail.skip([name])
+                    for _ in _checked(store, segments[-1]):
+                        pass
+                return segments
 
 
 def save(target: str | os.PathLike[str], output: BinaryIO) -> None:
@@ -209,39 +218,46 @@ def follow(target: str | os.PathLike[str]) -> Iterator[Counts]:
 
     Yield the counts after what is there, and after each check that found more.
     """
-    with contextlib.closing(open_store(target)) as store, Reading(store) as reading:
+    with contextlib.closing(open_store(target)) as store:
+        reading = Reading(store)
         while True:
             begun = time.monotonic()
             segments = store.segments()
             took = time.monotonic() - begun
-            if len(segments) > reading.last.number + 1:
-                yield reading.audit(segments)
+            try:
+                if segments[-1].number > reading.trail.last.number:
+                    yield reading.audit([it.name for it in segments])
+            except DroppedError:
+                # It begins with what is there now.
+                reading = Reading(store)
+                continue
             # A SQLite file that is written meanwhile is copied each time.
             time.sleep(max(_POLL_PAUSE, _REST * took))
 
 
-def texts(target: str | os.PathLike[str]) -> Iterator[bytes]:
-    """Yield the journal of each segment of a stored run, and of what comes after."""
-    for pieces in _journals(target):
-        yield b"".join(pieces)
+def texts(target: str | os.PathLike[str]) -> Iterator[tuple[int, bytes]]:
+    """Yield the journal of each segment of a stored run, and of what comes after, with the number of moves before it."""
+    for segment, pieces in _journals(target):
+        yield segment.first, b"".join(pieces)
 
 
 def _pieces(target: str | os.PathLike[str]) -> Iterator[bytes]:
-    """Yield the same in pieces, so that no journal is in memory."""
-    for pieces in _journals(target):
+    """Yield the journals in pieces, so that none is in memory."""
+    for _, pieces in _journals(target):
         yield from pieces
 
 
-def _journals(target: str | os.PathLike[str]) -> Iterator[Iterable[bytes]]:
+def _journals(target: str | os.PathLike[str]) -> Iterator[tuple[Segment, Iterable[bytes]]]:
     last = START
     with contextlib.closing(open_store(target)) as store:
         while True:
-            for segment in store.segments()[last.number + 1 :]:
-                yield store.text(segment, last.digest)
-                last = segment
+            for segment in store.segments():
+                if segment.number > last.number:
+                    yield segment, _checked(store, segment)
+                    last = segment
             with contextlib.suppress(Behind):
-                for journal in store.unsaved_journals(last):
-                    yield [journal]
+                for segment, text in store.unsaved(last):
+                    yield segment, [text]
                 return
 
 
@@ -275,7 +291,7 @@ def part(run: str | os.PathLike[str] | BinaryIO, number: int) -> bytes:
 
 def _part_of(store: Store, number: int) -> bytes:
     segments = store.segments()
-    if not 0 <= number < len(segments):
-        raise IndexError(f"there is no part {number}, as the run has {len(segments)}")
-    previous = segments[number - 1].digest if number else START.digest
-    return b"".join(store.text(segments[number], previous))
+    first, last = segments[0].number, segments[-1].number
+    if not first <= number <= last:
+        raise IndexError(f"there is no part {number}, as the run has {f'the parts {first} to {last}' if first else last + 1}")
+    return b"".join(_checked(store, segments[number - first]))

@@ -55,6 +55,16 @@ def capacity_of(capacity: int) -> int:
     return number_of("capacity", capacity, 1, 1_048_576)
 
 
+def expect_keep(keep: object) -> None:
+    """Check for a number of segments that stay.
+
+    Raises:
+        ValueError: it is none.
+    """
+    if not isinstance(keep, int) or isinstance(keep, bool) or keep < 1:
+        raise ValueError(f"keep is a whole number of segments from 1, and not {keep!r}")
+
+
 def forked_object() -> NoReturn:
     raise ForkedError("this was made in the parent of this process, and a fork's child has a copy of it alone")
 

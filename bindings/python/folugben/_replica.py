@@ -6,13 +6,12 @@ import re
 import time
 from typing import NamedTuple
 
-from ._auditor import Auditor
 from ._core import Agent, Storage
 from ._errors import Error, ManyError, TooLongError
-from ._folder import Segment
 from ._library import Code
 from ._lines import expect_state
 from ._log import Call, LogReader
+from ._segments import Segment, Trail, segment_after
 
 _OWN, _HEADER = re.compile(rb'^\{"agent":0,', re.MULTILINE), re.compile(rb'\{"agents":\d+,')
 # A segment ends after this many calls for each of its moves, as stale ones are retained too.
@@ -89,13 +88,13 @@ class Replica:
 
     def __init__(self, log: LogReader, last: Segment | None = None) -> None:
         self._moves = log.moves
-        self.segment, previous, self.applied = log.segment_end(last)
-        with Auditor() as auditor:
-            for chunk in log.text(self.segment, previous.digest):
-                auditor.feed(chunk)
-            auditor.end()
-            state = auditor._state()
-        self.era = Era(state, self.segment.number + 1, self.segment.end, self._moves)
+        self.segment, self.applied = log.segment_end(last)
+        trail = Trail()
+        trail.name(self.segment.name, log.length(self.segment.name))
+        for chunk in log.text(self.segment.name):
+            trail.core.text(chunk)
+        trail.end()
+        self.era = Era(trail.core.state(), self.segment.number + 1, self.segment.end, self._moves)
         self._fired = 0
 
     def apply(self, place: int, call: Call, is_own: bool = False) -> tuple[Answer | None, EndedSegment | None]:
@@ -127,10 +126,14 @@ class Replica:
         state = self.state_text()[1]
         expect_state(len(state))
         following = Era(state, era.number + 1, era.base + self._fired, self._moves)
-        text = era.journal()
-        self.segment = self.segment.following(self._fired, len(era.agents), memoryview(text))
+        self.segment, text = self.unfinished()
         self.era, self._fired = following, 0
         return EndedSegment(self.segment, text, place)
+
+    def unfinished(self) -> tuple[Segment, bytes]:
+        """Close the storage: return the segment that ends here, with its text."""
+        text = self.era.journal()
+        return segment_after(self.segment, self._fired, len(self.era.agents), text), text
 
     def state_text(self) -> tuple[int, bytes]:
         """Return the number of moves of the run up to its place, and the state's text."""
@@ -150,19 +153,19 @@ def _fired(applier: Agent, text: bytes, scans: bytes) -> int:
     return applier._fire(text, scans)
 
 
-def unsaved_journals(log: LogReader, last: Segment) -> list[bytes]:
-    """Return the journals of what the log has after a saved segment.
+def unsaved(log: LogReader, last: Segment) -> list[tuple[Segment, bytes]]:
+    """Return what the log has after a saved segment, with the texts.
 
     Raises:
         Behind: further segments were saved meanwhile, and these calls dropped.
     """
-    replica, journals = Replica(log, last), list[bytes]()
+    replica, segments = Replica(log, last), list[tuple[Segment, bytes]]()
     try:
         while placed_calls := log.calls_after(replica.applied):
             for place, call in placed_calls:
-                _, segment_end = replica.apply(place, call)
-                if segment_end is not None:
-                    journals.append(segment_end.text)
+                _, ended = replica.apply(place, call)
+                if ended is not None:
+                    segments.append((ended.segment, ended.text))
     except TooLongError:
         pass  # it is the last one
-    return [*journals, replica.era.journal()] if replica.era.agents else journals
+    return [*segments, replica.unfinished()] if replica.era.agents else segments

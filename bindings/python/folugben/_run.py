@@ -17,7 +17,7 @@ from ._library import Code
 from ._lines import expect_state
 from ._parts import Chain
 from ._reading import Reading
-from ._refusals import capacity_of, own_number
+from ._refusals import capacity_of, expect_keep, own_number
 from ._run_agent import RunAgent
 from ._texts import Form, to_python
 
@@ -56,7 +56,10 @@ class Run:
             run.flush()
 
     Within its `with`, on the main thread, SIGTERM ends the run as an exception (SystemExit) would, unless the program handles
-    SIGTERM itself.
+    SIGTERM itself. Python handles a signal that arrives just before the main thread blocks only afterwards: block for a second
+    at most.
+
+    With `keep` only so many of the last segments stay in the folder: after each save older ones are removed, one after the other.
 
     If a part can't be saved, because the disk is full or a move is missing, the run ends, and each further call on it and its
     agents raises `BrokenError` with the part. What was saved before is complete.
@@ -71,9 +74,9 @@ class Run:
 
     def __init__(
         self, path: str | os.PathLike[str], init: Iterable[Form] = (), moves: int = 100_000, *, every: float | None = None,
-        receipts: int | None = None, record: bool = False,
+        receipts: int | None = None, record: bool = False, keep: int | None = None,
     ) -> None:
-        capacity = self._prepare(path, moves, every, receipts, record)
+        capacity = self._prepare(path, moves, every, receipts, record, keep)
         with Storage(init, capacity, record=record) as opening:
             journal = memoryview(opening.close_journal())
             expect_state(len(journal))
@@ -82,12 +85,12 @@ class Run:
     @classmethod
     def resume(
         cls, path: str | os.PathLike[str], moves: int = 100_000, *, check: Literal["all", "last"] = "all",
-        every: float | None = None, receipts: int | None = None, record: bool = False,
+        every: float | None = None, receipts: int | None = None, record: bool = False, keep: int | None = None,
     ) -> "Run":
         """Continue an earlier run from the end of its last segment.
 
-        Its process may have been killed. First all segments are audited, or with check="last" only the last one. Nothing is
-        changed or removed. Whether the run recorded before has no effect on whether it does now.
+        Its process may have been killed. First all segments are audited, or with check="last" only the last one. That changes and
+        removes nothing. Whether the run recorded before has no effect on whether it does now.
 
         Raises:
             FileNotFoundError: there is no run.
@@ -99,13 +102,14 @@ class Run:
         if check not in ("all", "last"):
             raise ValueError(f"check is 'all' or 'last', and not {check!r}")
         run = cls.__new__(cls)
-        capacity = run._prepare(path, moves, every, receipts, record)
-        folder, segments = RunWriter.resume(run._path)
+        capacity = run._prepare(path, moves, every, receipts, record, keep)
+        folder, names = RunWriter.resume(run._path)
         try:
-            with Reading(folder) as reading:
-                reading.audit(segments) if check == "all" else reading.audit_last(segments)
-                state = reading.state()
+            reading = Reading(folder, trail=folder.trail)
+            reading.audit(names) if check == "all" else reading.audit_last(names)
+            state = folder.trail.core.state()
             expect_state(len(state))
+            folder.begin()
         except BaseException:
             folder.close()
             raise
@@ -113,7 +117,7 @@ class Run:
         return run
 
     def _prepare(
-        self, path: str | os.PathLike[str], moves: int, every: float | None, receipts: int | None, record: bool
+        self, path: str | os.PathLike[str], moves: int, every: float | None, receipts: int | None, record: bool, keep: int | None
     ) -> int:
         """Check and store the parameters of the run; return the capacity of its parts.
 
@@ -124,13 +128,15 @@ class Run:
             raise ValueError(f"every is a number of seconds above 0, and not {every!r}")
         if receipts is not None and not (isinstance(receipts, int) and receipts >= 0):
             raise ValueError(f"receipts is a whole number from 0, and not {receipts!r}")
-        self._every, self._receipts = every, (4 if record else 2) * capacity if receipts is None else receipts
+        if keep is not None:
+            expect_keep(keep)
+        self._every, self._keep, self._receipts = every, keep, (4 if record else 2) * capacity if receipts is None else receipts
         self._agents: weakref.WeakValueDictionary[int, RunAgent] = weakref.WeakValueDictionary()
         return capacity
 
     def _begin(self, folder: RunWriter, open_storage: Callable[[], Storage], capacity: int) -> None:
         try:
-            self._chain = Chain(folder, open_storage(), capacity, self._receipts, self._every)
+            self._chain = Chain(folder, open_storage(), capacity, self._receipts, self._every, self._keep)
         except BaseException:
             folder.close()
             raise

@@ -42,7 +42,7 @@ def _apply_change(old: Any, change: list[Any]) -> Any:
 def states(run: "Text | os.PathLike[str] | Run | SharedRun") -> Iterator[tuple[int, dict[tuple[Any, ...], Any]]]:
     """Yield the number and the values of each state of a run.
 
-    The opening state comes first, as number 0.
+    The opening state comes first, as number 0, or what the first segment opens with that wasn't dropped, with its number.
 
     The run is a journal, a stored run by a path that is no str, or a `Run` or a `SharedRun`, of which the saved part is read.
     The values are those of the locations that have one, by the location, such as ("count",), in a separate dict for each state.
@@ -52,16 +52,14 @@ def states(run: "Text | os.PathLike[str] | Run | SharedRun") -> Iterator[tuple[i
         ValueError: two of the locations are one key in Python, such as ("f", True) and ("f", 1).
     """
     if isinstance(run, (bytes, bytearray, memoryview, str)):
-        journals: Iterator[Text] = iter([run])
+        journals: Iterator[tuple[int, Text]] = iter([(0, run)])
     else:
         journals = texts(run if isinstance(run, os.PathLike) else run.target if isinstance(run, SharedRun) else run.path)
-    base = number = 0
-    for place, journal in enumerate(journals):
+    for place, (base, journal) in enumerate(journals):
         for number, values in states_by_text(journal):
             # What opens a later segment was yielded before.
             if number > 0 or place == 0:
                 yield base + number, by_place(values)
-        base += number
 
 
 def by_place(values: dict[str, Any]) -> dict[tuple[Any, ...], Any]:

@@ -18,7 +18,7 @@ WRITES = frozenset({"put", "add", "remove", "bag_add", "bag_remove", "inc"})
 ADDITIONS = frozenset({"add", "bag_add", "inc"})
 CALLS = WRITES | {
     "step", "read", "fire", "try_fire", "commit", "try_commit", "follow", "stands", "peek", "state", "scan", "learn", "answer", "give", "get", "see",
-    "has", "count_of", "size", "push", "extend", "pop", "pop_move", "offer",
+    "has", "count_of", "size", "any", "count", "push", "extend", "pop", "pop_move", "offer",
 }
 # How long to wait after Ctrl-C for those that play.
 _GRACE = 5.0

@@ -17,6 +17,7 @@ from collections import Counter
 from collections.abc import Callable
 
 import folugben
+from core_runs import work_on_segments
 from folugben import Auditor, Error, Location, Move, Storage, check
 
 _SIZES = "arena ordblks smblks hblks hblkhd usmblks fsmblks uordblks fordblks keepcost"
@@ -141,7 +142,7 @@ class World:
             "wrong values": lambda: [expect_refusal(lambda: move.put(at, it)) for it in wrong],
             "wrong words": lambda: [expect_refusal(it) for it in (lambda: move.put(at), lambda: move.put(1, 2), lambda: move.bag_add(at, 1, -1))],
             "freed": lambda: [expect_refusal(it) for it in (lambda: step(lambda it: it.get(self.freed)), lambda: move.put(self.freed, 1))],
-            "over": lambda: expect_refusal(lambda: [it.free() or it.get(at) for it in [agent.step()]]), "open": self.open,
+            "over": lambda: expect_refusal(lambda: [it.free() or it.get(at) for it in [agent.step()]]), "open": self.open, "segments": lambda: work_on_segments(expect_refusal),
             "no agent": lambda: [expect_refusal(lambda: self.storage.agent(it)) for it in (0, 2**40, -1, "a")],
             "reprs": lambda: (repr(agent), repr(self.storage), repr(agent.step()), agent.seen, agent.won, self.storage.moves()),
             "close": lambda: (agent.fire([]), expect_refusal(self.storage.close_journal)), "copy": lambda: expect_refusal(agent.__reduce__),

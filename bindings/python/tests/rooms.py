@@ -81,9 +81,10 @@ class Rooms(unittest.TestCase):
         return [part(self.path, number) for number in range(audit(self.path).parts)]
 
     def last_state(self):
-        with contextlib.closing(RunFolder(self.path)) as folder, Reading(folder) as reading:
-            reading.audit(folder.segments())
-            return own.pairs(json.loads(reading.state()))
+        with contextlib.closing(RunFolder(self.path)) as folder:
+            reading = Reading(folder)
+            reading.audit(folder.names())
+            return own.pairs(json.loads(reading.trail.core.state()))
 
 
 def live_in_bank(path):

@@ -139,7 +139,7 @@ class Plays(Shared):
                     self.assertEqual(step.try_commit(), 0)
         calls, moves, parts = audit(self.target)
         self.assertEqual((moves, parts), (30, 4))
-        self.assertTrue(all(check(text)[0] <= 20 for text in texts(self.target)))
+        self.assertTrue(all(check(text)[0] <= 20 for _, text in texts(self.target)))
 
     def test_numbers_of_agents(self):
         with SharedRun(self.target, INIT) as run, SharedRun(self.target) as other:

@@ -176,7 +176,7 @@ class Replayer:
     def call(self, name, *words):
         """Return the answer to a call, in the words of the table."""
         try:
-            if name in ("get", "see", "has", "count_of", "size", "push", "extend", "pop", "offer"):
+            if name in ("get", "see", "has", "count_of", "size", "any", "count", "push", "extend", "pop", "offer"):
                 return self.on_step(name, *words)
             return getattr(self if hasattr(self, name) else folugben, name)(*words)
         except StaleError as stale:

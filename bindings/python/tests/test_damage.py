@@ -68,7 +68,6 @@ class Folders(Rooms):
         for number, altered in [
             (2, lambda: (self.path / names[2]).unlink()),
             (2, lambda: (self.path / names[2]).rename(self.path / "00000009-4-4-4-00-00.journal")),
-            (0, lambda: (self.path / names[0]).unlink()),
             (1, lambda: shutil.copy(self.path / names[1], self.path / names[1].replace("-4-4-", "-4-5-"))),
             (5, lambda: (self.path / "0005.journal").touch()),
             *((number, lambda number=number, old=old, new=new: (self.path / names[number]).rename(self.path / names[number].replace(old, new)))
@@ -85,15 +84,15 @@ class Folders(Rooms):
             self.assert_refused(number)
             shutil.rmtree(self.path)
             copy.rename(self.path)
-        # Where the digest of the one before is another one is said too.
-        for number, old, new, message in [
-            (3, "-4-4-4-", "-4-3-4-", "FIRST 8, and the segments before it have 7 moves"),
-            (3, names[2][-72:-8], "0" * 64, "another PREVIOUS"),
-        ]:
+        # Whoever reads its text finds the altered one; by the names alone it is the next one.
+        for old, new, moves in [("-4-4-4-", "-4-3-4-", 7), (names[2][-72:-8], "0" * 64, 8)]:
             altered = self.path / names[2].replace(old, new)
             (self.path / names[2]).rename(altered)
-            with self.assertRaisesRegex(DamagedError, f"segment {number}: its name has {message}"):
-                audit(self.path)
+            for call in audit, verify, Run.resume:
+                with self.assertRaisesRegex(DamagedError, "segment 2: its text isn't the one that was saved"):
+                    call(self.path)
+            with self.assertRaisesRegex(DamagedError, f"segment 3: its name has another PREVIOUS or FIRST than .* of {moves} moves"):
+                Run.resume(self.path, check="last")
             altered.rename(self.path / names[2])
         # Files that a copy or an editor leaves there have no effect, and neither does the removal of the last segments.
         (self.path / "notes").touch()
@@ -103,7 +102,9 @@ class Folders(Rooms):
     def replace_last(self, text, moves, events):
         """Replace the last segment by a text of these numbers, with a right digest."""
         segments(self.path)[4].unlink()
-        writer, _ = RunWriter.resume(self.path)
+        writer, names = RunWriter.resume(self.path)
+        writer.trail.skip(names)
+        writer.begin()
         writer.save(memoryview(text), moves, events)
         writer.close()
 
@@ -192,7 +193,8 @@ class PowerFailures(Rooms):
 
     def write(self, rng):
         for times in range(3):
-            with (Run.resume(self.path, 3, check="last") if times else Run(self.path, INIT, 3)) as run, run.agent(0) as agent:
+            keep = rng.choice((None, 1, 2, 3))
+            with (Run.resume(self.path, 3, check="last", keep=keep) if times else Run(self.path, INIT, 3, keep=keep)) as run, run.agent(0) as agent:
                 for _ in range(rng.randrange(1, 12)):
                     agent.play(raised)
                     if rng.random() < 0.2:
@@ -218,7 +220,8 @@ class PowerFailures(Rooms):
                 return False
             number = run.saved
             self.assertEqual(agent.play(raised), (number + 1, None))
-        self.assertEqual(audit(path)[1], number + 1)
+        counts = audit(path)
+        self.assertEqual(counts.moves_before + counts.moves, number + 1)
         return True
 
     def test_nothing_is_lost(self):

@@ -101,7 +101,7 @@ class Folders(Rooms):
             digest = hashlib.sha256(line.encode() + text).hexdigest()
             self.assertEqual(file.name, f"{number:08}-{first}-{moves}-{moves}-{before}-{digest}.journal")
             before, first = digest, first + moves
-        last = verify(self.path)
+        last = verify(self.path)[-1]
         self.assertEqual((last.number, last.end, last.digest), (2, 6, before))
 
     def test_a_link_is_read_and_not_written(self):

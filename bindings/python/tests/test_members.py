@@ -3,7 +3,7 @@ import unittest
 from collections import Counter
 
 import folugben
-from folugben import Code, Error, Location, ManyError, MovedError, OverError, StaleError, Storage, check
+from folugben import Code, Error, Location, ManyError, MovedError, OverError, StaleError, Storage, check, explore
 
 ELEMENTS = [None, True, False, 0, 1, -(2**63), "", "a", 'ä"\\\n\x00\U0001f600', "x" * 5000, (), (None, True, ("b", 1))]
 
@@ -56,6 +56,39 @@ class Members(unittest.TestCase):
             self.assertRaises(folugben.Error, step.size, "number")
             self.assertEqual([at for at, _ in step.offer()["reads"]], [("number",)])
             step.free()
+
+    def test_a_function_is_asked_and_counted(self):
+        with self.agent.step() as step:
+            self.assertEqual((step.any("counts"), step.any("none")), (True, False))
+            self.assertEqual((step.count("counts"), step.count("none")), (1, 0))
+            step.put(("none", 1), 2)
+            step.add("made", 1)
+            step.add("made", 2)
+            self.assertEqual((step.any("none"), step.count("none"), step.count("made")), (True, 1, 1))
+            for call in (step.any, step.count):
+                self.assertEqual(self.code_of(call, "no name")[0], Code.SHAPE)
+                self.assertRaises(TypeError, call, ("counts", 1))
+            self.rival.fire([("put", ("counts", 2), 1)])
+            with self.assertRaises(StaleError) as stale:
+                step.commit()
+            self.assertEqual(stale.exception.at, ("counts", 2))
+            for call in (step.any, step.count):
+                self.assertRaises(MovedError, call, "counts")
+        self.assertRaises(OverError, step.any, "counts")
+
+    def test_a_search_knows_what_was_asked(self):
+        def take(call, number):
+            def rule(step):
+                if not call(step)("held"):
+                    step.put(("held", number), True)
+            return lambda agent: agent.play(rule)
+
+        for call in (lambda step: step.any, lambda step: step.count):
+            programs = [take(call, number) for number in (0, 1)]
+            held = explore(lambda: Storage({}, 10), programs, lambda values: len(values) <= 1)
+            self.assertTrue(held.is_exhaustive, held)
+            found = explore(lambda: Storage({}, 10), programs, lambda values: ("held", 1) not in values)
+            self.assertFalse(found.is_exhaustive, found)
 
     def code_of(self, call, *arguments):
         """Return the code of the error that the call raises, and its message."""

@@ -216,7 +216,7 @@ class Saving(Rooms):
     def test_sigterm_ends_the_with(self):
         code = """
 import sys, time
-from concurrent.futures import ThreadPoolExecutor
+from concurrent.futures import ThreadPoolExecutor, wait
 from folugben import Error, Run
 def work(own):
     with run.agent(own) as agent:
@@ -227,10 +227,9 @@ with Run(sys.argv[1], [[["count"], 0]]) as run, ThreadPoolExecutor() as pool:
     while run.state()[0] < 100:
         time.sleep(0.01)
     print("begun", flush=True)
-    if sys.argv[2] == "wait":
-        [life.result() for life in lives]
+    # Python handles a signal that arrives just before it blocks only afterwards.
     while True:
-        time.sleep(100)
+        wait(lives, 1) if sys.argv[2] == "wait" else time.sleep(1)
 """
         for how in "wait", "sleep":
             path = self.room / how
