@@ -33,6 +33,8 @@ public final class Auditor implements AutoCloseable {
     private final Room room = new Room();
     private Counts counts = new Counts(0, 0, 0);
     private long taken;
+    /** All that was fed, if that is a folder; else null. */
+    private FolderAudit folder;
 
     /** An audit to which nothing was fed. */
     public Auditor() {
@@ -44,9 +46,15 @@ public final class Auditor implements AutoCloseable {
     /**
      * The counts of an audit: complete parts, judged calls, and fired moves.
      *
-     * <p>Calls and moves count in all parts.
+     * <p>Calls and moves count in all parts. The moves before the first part count in none: they
+     * are 0, unless the first segments of a run were removed.
      */
-    public record Counts(long parts, long calls, long moves) {}
+    public record Counts(long parts, long calls, long moves, long before) {
+        /** Those of a run that begins with its first part. */
+        public Counts(long parts, long calls, long moves) {
+            this(parts, calls, moves, 0);
+        }
+    }
 
     /**
      * Audits a stored run, a folder or one file, and returns its counts.
@@ -78,9 +86,11 @@ public final class Auditor implements AutoCloseable {
         Objects.checkFromIndexSize(offset, length, Objects.requireNonNull(bytes, "bytes").length);
         synchronized (slot) {
             expectOpen();
+            if (length > 0)
+                leaveFolder();
             for (int at = offset; at < offset + length; at += PIECE)
                 take(bytes, at, Math.min(PIECE, offset + length - at));
-            return counts;
+            return counts();
         }
     }
 
@@ -140,21 +150,75 @@ public final class Auditor implements AutoCloseable {
     /**
      * Audits the bytes of a file, or of all segments of a run's folder, as feed does.
      *
+     * <p>It reads each byte of a folder once, unless something else was fed or is fed later.
+     *
      * @throws DamagedException if a segment isn't the one that was saved
      */
     public Counts feed(Path run) {
         try {
-            if (!Files.isDirectory(run))
-                return feedFile(run);
-            Segment before = Segment.START;
-            for (Segment segment : Segment.of(run)) {
-                segment.audit(run, before, this);
-                before = segment;
-            }
-            return counts();
+            return Files.isDirectory(run) ? feedFolder(run) : feedFile(run);
         } catch (IOException fault) {
             throw new UncheckedIOException(fault);
         }
+    }
+
+    private Counts feedFolder(Path run) throws IOException {
+        FolderAudit next = new FolderAudit(run);
+        boolean isAll = false;
+        try {
+            isAll = begin(next);
+            if (next.read()) {
+                if (!isAll)
+                    feedTexts(next);
+                return counts();
+            }
+            end(next);
+            return feedFolder(run);
+        } catch (Error fault) {
+            end(next); // refused memory, after which it may be fed again
+            throw fault;
+        } finally {
+            if (!isAll)
+                next.close();
+        }
+    }
+
+    /** Makes a folder all that was fed, unless something else was. */
+    private boolean begin(FolderAudit next) {
+        synchronized (slot) {
+            expectOpen();
+            leaveFolder();
+            if (taken > 0)
+                return false;
+            folder = next;
+            return true;
+        }
+    }
+
+    private void end(FolderAudit next) {
+        synchronized (slot) {
+            if (folder == next)
+                folder = null;
+        }
+        next.close();
+    }
+
+    /** Judges the texts of the folder again, if there is one, as others come after them. */
+    private void leaveFolder() {
+        FolderAudit left = folder;
+        if (left == null)
+            return;
+        left.expectLegal();
+        folder = null;
+        try (left) {
+            feedTexts(left);
+        } catch (IOException fault) {
+            throw new UncheckedIOException(fault);
+        }
+    }
+
+    private void feedTexts(FolderAudit read) throws IOException {
+        read.giveTexts((piece, length) -> feed(piece, 0, length));
     }
 
     private Counts feedFile(Path file) throws IOException {
@@ -166,14 +230,14 @@ public final class Auditor implements AutoCloseable {
     /** Returns how many of all bytes that were fed were taken. */
     public long taken() {
         synchronized (slot) {
-            return taken;
+            return folder == null ? taken : folder.bytes();
         }
     }
 
-    /** Returns the counts so far, of the bytes that were taken. */
+    /** Returns the counts so far: of the bytes that were taken, or of a folder's judged segments. */
     public Counts counts() {
         synchronized (slot) {
-            return counts;
+            return folder == null ? counts : folder.counts();
         }
     }
 
@@ -187,6 +251,10 @@ public final class Auditor implements AutoCloseable {
     public Counts end() {
         synchronized (slot) {
             expectOpen();
+            if (folder != null) {
+                folder.expectLegal();
+                return folder.counts();
+            }
             Code code = Code.of(Calls.asm_audited(slot.at, room.numbers()));
             expect(code, currentCounts());
             return currentCounts();
@@ -201,6 +269,8 @@ public final class Auditor implements AutoCloseable {
     public String state() {
         synchronized (slot) {
             expectOpen();
+            if (folder != null)
+                return folder.state();
             Calls.Result result = room.resultOf(
                     (text, out, length, written)
                             -> Calls.asm_audit_state(slot.at, out, length, written));
@@ -214,7 +284,7 @@ public final class Auditor implements AutoCloseable {
         return JsonReader.state(state());
     }
 
-    /** Returns a text such as an audit, Counts[parts=1, calls=3, moves=2]. */
+    /** Returns a text such as an audit, Counts[parts=1, calls=3, moves=2, before=0]. */
     @Override
     public String toString() {
         return "an audit, " + counts();
@@ -225,6 +295,8 @@ public final class Auditor implements AutoCloseable {
     public void close() {
         synchronized (slot) {
             Calls.asm_free(slot.at);
+            if (folder != null)
+                folder.close();
         }
     }
 }

@@ -143,6 +143,10 @@ final class Calls {
 
     static native int asm_size(long agent, long step, long at, long size);
 
+    static native int asm_any(long agent, long step, long name, long len, long any);
+
+    static native int asm_count(long agent, long step, long name, long len, long count);
+
     static native int asm_instruct(long move, long at, int verb, int kind, long number,
             long bytes, long len, int amount);
 
@@ -188,6 +192,33 @@ final class Calls {
     static native int asm_audited(long audit, long told);
 
     static native int asm_audit_state(long audit, long out, long room, long written);
+
+    static native int asm_run_open(long run);
+
+    static native int asm_run_name(long run, long name, long len, long bytes, long found);
+
+    static native int asm_run_text(long run, long bytes, long len);
+
+    static native int asm_run_end(long run, long told);
+
+    static native int asm_run_skip(long run);
+
+    static native int asm_run_state(long run, long out, long room, long written);
+
+    static native int asm_run_read(long run);
+
+    static native int asm_run_hand(long run, long moves, long events, long text, long len,
+            long out, long room, long written);
+
+    static native int asm_run_drop(long run, long number);
+
+    static native int asm_run_request(long run, long request);
+
+    static native int asm_run_done(long run);
+
+    static native int asm_run_failed(long run);
+
+    static native int asm_run_saved(long run, long saved, long out, long room, long written);
 
     static native int asm_replay(
             byte[] journal, long len, byte[] out, long room, long[] written, long[] line);

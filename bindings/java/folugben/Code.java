@@ -75,7 +75,25 @@ public enum Code {
     /** A line has more bytes than an audit reads. */
     LONG_LINE(34),
     /** A move has more than 4,096 instructions. */
-    LONG_MOVE(35);
+    LONG_MOVE(35),
+    /** A file has another name than a segment of a run. */
+    NAME(36),
+    /** Another call on a run comes next, which no call here returns. */
+    ORDER(37),
+    /** The number of a segment isn't the next one. */
+    NOT_NEXT(38),
+    /** Segment 0 of a run has events, or something before it. */
+    OPENING(39),
+    /** A segment of a run follows another one than the one before it. */
+    PREVIOUS(40),
+    /** The text of a segment isn't the one that was saved. */
+    DAMAGED(41),
+    /** A segment has other counts than its name says. */
+    COUNTS(42),
+    /** A run has too many segments or moves. */
+    LONG_RUN(43),
+    /** The only segment of a run isn't dropped. */
+    ONE_SEGMENT(44);
 
     private static final Code[] ALL = values();
 

@@ -34,6 +34,8 @@ final class PartWriter {
     private volatile long saved;
     /** How many ns after its first move a part ends at rest; 0 for never. */
     private volatile long every;
+    /** How many segments stay. */
+    private volatile int kept = Integer.MAX_VALUE;
     /** All below with the lock of this. How often what may be waited for has changed. */
     private long changes;
     private boolean isClosing;
@@ -107,6 +109,11 @@ final class PartWriter {
     void every(Duration time) {
         every = time.toNanos();
         wake();
+    }
+
+    /** Removes older segments than the last ones after each save. */
+    void keep(int segments) {
+        kept = segments;
     }
 
     /** Saves all fired moves, and waits until they are on the disk. */
@@ -212,6 +219,7 @@ final class PartWriter {
         folder.save(journal.duplicate(), end - ended.before(), events);
         saved = end;
         parts++;
+        folder.keep(kept);
     }
 
     /**

@@ -44,11 +44,9 @@ final class Replica {
         moves = log.moves();
         segment = last.segment();
         applied = last.place();
-        try (Auditor auditor = new Auditor()) {
-            log.text(segment, last.before().digest(),
-                    (piece, length) -> auditor.feed(piece, 0, length));
-            auditor.end();
-            era = new Era(auditor.state(), segment.number() + 1, segment.end(), moves);
+        try (Trail trail = new Trail()) {
+            trail.take(segment, log.length(segment), sink -> log.text(segment, sink));
+            era = new Era(trail.core.state(), segment.number() + 1, segment.end(), moves);
         }
     }
 
@@ -124,11 +122,17 @@ final class Replica {
         String state = state().pairs();
         Texts.Lines.expectState(Texts.Lines.bytes(state));
         Era next = new Era(state, ended.number + 1, ended.base + fired, moves);
-        byte[] text = ended.journal();
-        segment = segment.following(fired, ended.events(), ByteBuffer.wrap(text));
+        EndedSegment now = closeSegment();
+        segment = now.segment();
         era = next;
         fired = 0;
-        return new EndedSegment(segment, text, applied);
+        return now;
+    }
+
+    /** Closes its storage: returns the segment that ends here. */
+    private EndedSegment closeSegment() {
+        byte[] text = era.journal();
+        return new EndedSegment(Trail.after(segment, fired, era.events(), text), text, applied);
     }
 
     /** Returns the number of moves of the run up to its place, and the state after them. */
@@ -144,30 +148,30 @@ final class Replica {
     }
 
     /**
-     * Returns the journals of what the log has after a saved segment.
+     * Returns what the log has after a saved segment, as segments.
      *
      * @throws SharedLog.OutdatedException if further segments were saved meanwhile
      */
-    static List<byte[]> rest(SharedLog log, Segment last)
+    static List<EndedSegment> rest(SharedLog log, Segment last)
             throws IOException, SharedLog.OutdatedException {
         Replica replica = new Replica(log, log.ended(last));
-        List<byte[]> journals = new ArrayList<>();
+        List<EndedSegment> segments = new ArrayList<>();
         try {
             List<SharedLog.LogEntry> placed;
             while (!(placed = log.exchange(List.of(), replica.applied)).isEmpty())
                 for (SharedLog.LogEntry next : placed) {
                     EndedSegment ended = replica.apply(next, false).ended();
                     if (ended != null)
-                        journals.add(ended.text());
+                        segments.add(ended);
                 }
         } catch (TooLongException full) {
             // It is the last one, whose state is too long for a line.
         }
         if (replica.era.events() > 0)
-            journals.add(replica.era.journal());
+            segments.add(replica.closeSegment());
         else
             replica.close();
-        return journals;
+        return segments;
     }
 
     /**

@@ -117,7 +117,11 @@ final class Room {
         return bytes.getLong(WRITTEN);
     }
 
-    /** Returns the address of three numbers, of 32 or of 64 bits. */
+    /**
+     * Returns the address of three numbers, of 32 or of 64 bits.
+     *
+     * <p>A fourth one may follow, in the place of a value's kind.
+     */
     long numbers() {
         return at + NUMBERS;
     }
@@ -127,7 +131,7 @@ final class Room {
         return bytes.getInt(NUMBERS + Integer.BYTES * index);
     }
 
-    /** Returns such a number of 64 bits. */
+    /** Returns such a number of 64 bits; the fourth one too. */
     long wide(int index) {
         return bytes.getLong(NUMBERS + Long.BYTES * index);
     }

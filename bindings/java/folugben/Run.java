@@ -5,7 +5,6 @@ import java.io.UncheckedIOException;
 import java.nio.ByteBuffer;
 import java.nio.file.Path;
 import java.time.Duration;
-import java.util.List;
 import java.util.Map;
 import java.util.Objects;
 
@@ -33,7 +32,8 @@ import java.util.Objects;
  *   <li>A part is complete once it is over and no agent is out in it. Nothing more happens in it
  *       then, and the thread alone has it: it writes and releases the part, and then the next.
  *   <li>A file has the name of a segment once it is complete and on the disk, and never changes.
- *       So a crash leaves complete segments, and nothing of a run is ever cut off or removed.
+ *       So a crash leaves complete segments. Nothing of a run is ever cut off, and no segment but
+ *       the oldest is removed, if it keeps some alone.
  *   <li>Agents wait for the thread, holding no lock, while two parts are over and not written yet,
  *       so at most three are in memory. The thread waits for no agent that waits for it.
  * </ul>
@@ -149,27 +149,16 @@ public final class Run implements AutoCloseable {
         Objects.requireNonNull(check, "check");
         Storage.expectCapacity(moves);
         try {
-            RunFolder folder = RunFolder.reopen(path);
-            try (Auditor auditor = new Auditor()) {
-                audit(folder.path(), check, auditor);
-                return start(folder, new Storage(auditor.state(), moves), moves, receipts);
-            } catch (IOException | RuntimeException | Error fault) {
+            RunFolder folder = RunFolder.reopen(path, check);
+            try {
+                return start(folder, new Storage(folder.state(), moves), moves, receipts);
+            } catch (RuntimeException | Error fault) {
                 folder.close();
                 throw fault;
             }
         } catch (IOException fault) {
             throw new UncheckedIOException(fault);
         }
-    }
-
-    private static void audit(Path folder, Check check, Auditor auditor) throws IOException {
-        if (check == Check.ALL) {
-            auditor.feed(folder);
-            return;
-        }
-        List<Segment> segments = Segment.of(folder);
-        int last = segments.size() - 1;
-        segments.get(last).audit(folder, last == 0 ? Segment.START : segments.get(last - 1), auditor);
     }
 
     private static Run start(RunFolder folder, Storage storage, int moves, long receipts) {
@@ -219,6 +208,19 @@ public final class Run implements AutoCloseable {
     }
 
     /**
+     * Keeps this many segments: after each save from now on older ones are removed, one by one.
+     *
+     * @return this run
+     * @throws IllegalArgumentException if the number isn't 1 or more
+     */
+    public Run keep(int segments) {
+        if (segments < 1)
+            throw new IllegalArgumentException("a run keeps 1 segment or more, and not " + segments);
+        writer.keep(segments);
+        return this;
+    }
+
+    /**
      * Saves all moves up to now: they are on the disk when this returns.
      * It ends the part, which makes a segment. It waits a tenth of a second for steps: one that
      * lasts longer throws a {@link PastException}, and play begins again.
@@ -249,12 +251,12 @@ public final class Run implements AutoCloseable {
         return "the run in " + folder + ", " + saved() + " moves saved" + (isRunning() ? "" : ", ended");
     }
 
-    /** Returns how many parts are on the disk. */
+    /** Returns how many parts were saved: they are on the disk, but for those that were removed. */
     public long parts() {
         return writer.parts();
     }
 
-    /** Returns how many moves of the run are on the disk. */
+    /** Returns how many moves these parts have. */
     public long saved() {
         return writer.saved();
     }

@@ -19,24 +19,32 @@ import java.nio.file.attribute.FileAttribute;
 import java.nio.file.attribute.PosixFilePermissions;
 import java.util.List;
 import java.util.Set;
+import java.util.SortedMap;
+import java.util.TreeMap;
 import java.util.stream.Stream;
 
 /**
  * The folder of a run, to which this run alone writes: one text file a segment.
  *
- * <p>The files' names hold a chain of digests. No file with a segment's name is truncated, removed
- * or changed.
+ * <p>The library names the files, and says which call of the system comes next. No file with a
+ * segment's name is truncated or changed, and none is removed but by {@link #keep}.
  */
 final class RunFolder implements AutoCloseable {
     private static final String NEW = "new";
     private static final String LOCK = "lock";
-    private static final long MOST = 100_000_000;
+    private static final ByteBuffer NOTHING = ByteBuffer.allocate(0);
 
     private final Path path;
     private final FileChannel folder;
     private final Object key;
     private final FileGuard lock;
-    private Segment last = Segment.START;
+    /** What was read and saved. */
+    private final Trail trail = new Trail();
+    private final RunCore core = trail.core;
+    /** The names of the segments that are there, by their numbers. */
+    private final SortedMap<Long, String> there = new TreeMap<>();
+    /** The file {@code new} while it is written; else null. */
+    private FileChannel made;
     /** The file of the last segment, and what it was when it was written or found. */
     private Path file;
     private FileId written;
@@ -59,9 +67,10 @@ final class RunFolder implements AutoCloseable {
             taken = lock = new FileGuard(path.resolve(LOCK));
             expectFolder();
             // What an earlier, killed run has renamed is flushed before it is reported.
-            folder.force(true);
+            make(core.request(), "", NOTHING);
             force(path.getParent());
         } catch (IOException | RuntimeException | Error fault) {
+            trail.close();
             if (taken != null)
                 taken.close();
             folder.close();
@@ -81,6 +90,7 @@ final class RunFolder implements AutoCloseable {
         RunFolder made = new RunFolder(real);
         try {
             expectEmpty(real);
+            made.core.read();
             made.save(opening, 0, 0);
             return made;
         } catch (IOException | RuntimeException | Error fault) {
@@ -89,23 +99,34 @@ final class RunFolder implements AutoCloseable {
         }
     }
 
-    /** Opens the folder of an earlier run; reads no text. */
-    static RunFolder reopen(Path path) throws IOException {
+    /** Opens the folder of an earlier run, of which it audits no more than the check says. */
+    static RunFolder reopen(Path path, Run.Check check) throws IOException {
         Path real = real(path);
         Segment.of(real); // nothing is created in a folder without a run
         RunFolder there = new RunFolder(real);
         try {
-            List<Segment> segments = Segment.of(real);
-            there.last = segments.get(segments.size() - 1);
-            Segment before = segments.size() > 1 ? segments.get(segments.size() - 2) : Segment.START;
-            there.file = real.resolve(there.last.name(before.digest()));
-            there.written = FileId.of(there.file, LinkOption.NOFOLLOW_LINKS);
+            there.read(Segment.of(real), check);
             Files.deleteIfExists(real.resolve(NEW));
             return there;
         } catch (IOException | RuntimeException | Error fault) {
             there.close();
             throw fault;
         }
+    }
+
+    private void read(List<Segment> segments, Run.Check check) throws IOException {
+        int unread = check == Run.Check.ALL ? 0 : segments.size() - 1;
+        trail.skip(segments.subList(0, unread).stream().map(Segment::name).toList());
+        for (Segment segment : segments.subList(unread, segments.size())) trail.take(segment, path);
+        for (Segment segment : segments) there.put(segment.number(), segment.name());
+        core.read();
+        file = path.resolve(last().name());
+        written = FileId.of(file, LinkOption.NOFOLLOW_LINKS);
+    }
+
+    /** Returns the state [PAIR, ..] that the segments leave which were read. */
+    String state() {
+        return core.state();
     }
 
     /** Returns where the path of a run's folder leads to, if it exists or not. */
@@ -161,49 +182,91 @@ final class RunFolder implements AutoCloseable {
 
     /** Returns the last segment. */
     Segment last() {
-        return last;
+        return trail.last();
     }
 
     /** Saves the next segment: it is on the disk then. After a fault nothing more may be saved. */
     void save(ByteBuffer text, long moves, long events) throws IOException {
-        Segment now = last.following(moves, events, text);
-        if (now.number() >= MOST)
-            throw new FileSystemException(
-                    path.toString(), null, "a run has at most 100,000,000 segments");
         expectFolder();
-        FileId made = writeNew(text);
-        Path named = path.resolve(now.name(last.digest()));
-        Files.move(path.resolve(NEW), named, StandardCopyOption.ATOMIC_MOVE);
-        folder.force(true);
-        last = now;
-        file = named;
-        written = made;
+        Calls.Result handed = core.hand(text, moves, events);
+        if (handed.code() == Code.LONG_RUN)
+            throw new FileSystemException(path.toString(), null,
+                    "a run has at most 100,000,000 segments, and less than 2^64 moves");
+        FolugbenException.expect(handed.code());
+        String name = handed.text();
+        work(name, text);
+        Segment last = last();
+        trail.last(new Segment(last.number() + 1, last.end(), moves, events, name));
+        there.put(last().number(), name);
+        file = path.resolve(name);
         expectFolder();
     }
 
-    private FileId writeNew(ByteBuffer text) throws IOException {
-        Path made = path.resolve(NEW);
-        Files.deleteIfExists(made);
-        try (FileChannel file = FileChannel.open(made,
-                     Set.of(StandardOpenOption.WRITE, StandardOpenOption.CREATE_NEW), FileGuard.OWN)) {
-            while (text.hasRemaining())
-                if (file.write(text) == 0)
-                    throw new FileSystemException(made.toString(), null, "a write took no byte");
-            file.force(true);
-            return FileId.of(made, LinkOption.NOFOLLOW_LINKS);
-        } catch (IOException | RuntimeException | Error fault) {
-            try {
-                Files.deleteIfExists(made); // the disk may be full of it
-            } catch (IOException further) {
-                fault.addSuppressed(further);
+    /** Removes the oldest segments, one after the other, until there are at most so many. */
+    void keep(int most) throws IOException {
+        while (there.size() > most) work(there.remove(core.drop()), NOTHING);
+    }
+
+    /** Makes each call of the system that comes next, for the segment with this name and text. */
+    private void work(String name, ByteBuffer text) throws IOException {
+        try {
+            for (RunCore.Request next; (next = core.request()) != RunCore.Request.REST;) {
+                make(next, name, text);
+                core.done();
             }
+        } catch (IOException | RuntimeException | Error fault) {
+            core.failed();
+            removeNew(fault);
             throw fault;
+        }
+    }
+
+    private void make(RunCore.Request request, String name, ByteBuffer text) throws IOException {
+        Path fresh = path.resolve(NEW);
+        switch (request) {
+            case REMOVE_NEW -> Files.deleteIfExists(fresh);
+            case CREATE_NEW -> made = FileChannel.open(fresh,
+                    Set.of(StandardOpenOption.WRITE, StandardOpenOption.CREATE_NEW), FileGuard.OWN);
+            case WRITE_NEW -> write(fresh, text);
+            case FLUSH_NEW -> {
+                made.force(true);
+                file = null;
+                written = FileId.of(fresh, LinkOption.NOFOLLOW_LINKS);
+                closeNew();
+            }
+            case RENAME_NEW -> Files.move(fresh, path.resolve(name), StandardCopyOption.ATOMIC_MOVE);
+            case FLUSH_FOLDER -> folder.force(true);
+            case REMOVE_OLDEST -> Files.delete(path.resolve(name));
+            default -> throw new IllegalStateException("nothing else is asked for: " + request);
+        }
+    }
+
+    private void write(Path fresh, ByteBuffer text) throws IOException {
+        while (text.hasRemaining())
+            if (made.write(text) == 0)
+                throw new FileSystemException(fresh.toString(), null, "a write took no byte");
+    }
+
+    private void closeNew() throws IOException {
+        FileChannel open = made;
+        made = null;
+        if (open != null)
+            open.close();
+    }
+
+    /** Removes what was written before a fault: the disk may be full of it. */
+    private void removeNew(Throwable fault) {
+        try {
+            closeNew();
+            Files.deleteIfExists(path.resolve(NEW));
+        } catch (IOException further) {
+            fault.addSuppressed(further);
         }
     }
 
     /** Throws if the path doesn't lead to this folder, with the lock and the last segment. */
     private void expectFolder() throws IOException {
-        long next = last.number() + 1;
+        long next = last().number() + 1;
         try {
             if (!FileId.of(path).key().equals(key))
                 throw new DamagedException(next, path + " was moved or replaced");
@@ -211,7 +274,7 @@ final class RunFolder implements AutoCloseable {
                 throw new DamagedException(next, "the lock in " + path + " was replaced");
             if (file != null && !FileId.of(file, LinkOption.NOFOLLOW_LINKS).equals(written))
                 throw new DamagedException(
-                        last.number(), "its file was replaced, or has another size");
+                        next - 1, "its file was replaced, or has another size");
         } catch (NoSuchFileException missing) {
             throw new DamagedException(next, path + ": what the run has written was removed");
         }
@@ -220,6 +283,7 @@ final class RunFolder implements AutoCloseable {
     /** Closes the folder, which another run may then have. */
     @Override
     public void close() throws IOException {
+        trail.close();
         try {
             folder.close();
         } finally {

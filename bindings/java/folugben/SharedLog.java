@@ -2,10 +2,8 @@ package folugben;
 
 import java.io.ByteArrayOutputStream;
 import java.io.IOException;
-import java.nio.ByteBuffer;
 import java.nio.file.FileAlreadyExistsException;
 import java.nio.file.NoSuchFileException;
-import java.security.MessageDigest;
 import java.util.ArrayList;
 import java.util.Arrays;
 import java.util.List;
@@ -43,8 +41,8 @@ final class SharedLog {
     /** A call of the log at its place. */
     record LogEntry(long place, Call call) {}
 
-    /** A segment, the one before it, and the place at which it ended. */
-    record SegmentEnd(Segment segment, Segment before, long place) {}
+    /** A segment, and the place at which it ended. */
+    record SegmentEnd(Segment segment, long place) {}
 
     /** Makes the opening journal for so many moves. */
     interface Opening {
@@ -108,8 +106,7 @@ final class SharedLog {
             makeOrJoin(opening, most); // another process has made it meanwhile
         }
         if (opening != null
-                && !Segment.START.following(0, 0, ByteBuffer.wrap(opening.journal(moves)))
-                            .equals(segment(0)))
+                && !Trail.after(Segment.START, 0, 0, opening.journal(moves)).equals(segment(0)))
             throw new MismatchException("the run has another opening state: " + Strangers.shown(target));
     }
 
@@ -136,7 +133,7 @@ final class SharedLog {
         database.make();
         for (String statement : Tables.ALL.replace("BLOB", database.blob()).split(";")) run(statement);
         run("insert into INrun values (1, ?, ?, 0)", Tables.FORMAT, most);
-        insert(Segment.START.following(0, 0, ByteBuffer.wrap(opening)), opening, 0);
+        insert(Trail.after(Segment.START, 0, 0, opening), opening, 0);
     }
 
     private void check() throws IOException {
@@ -270,7 +267,7 @@ final class SharedLog {
         List<Segment> segments = new ArrayList<>();
         Segment last = Segment.START;
         for (Object[] row : run(SEGMENT + " order by number")) {
-            Segment next = Tables.segment(row, last.number() + 1);
+            Segment next = Tables.segment(row, last.number() + 1, last);
             if (next.number() != last.number() + 1 || next.first() != last.end())
                 throw new DamagedException(
                         last.number() + 1, "its row is missing, or has other numbers");
@@ -280,10 +277,12 @@ final class SharedLog {
     }
 
     private Segment segment(long number) throws IOException {
-        List<Object[]> rows = run(SEGMENT + " where number = ?", number);
-        if (rows.isEmpty())
-            throw new DamagedException(number, "its row is missing");
-        return Tables.segment(rows.get(0), number);
+        List<Object[]> rows =
+                run(SEGMENT + " where number between ? and ? order by number", number - 1, number);
+        Tables.expect(rows.size() == Math.min(number, 1) + 1, number, "its row is missing");
+        Segment segment = Segment.START;
+        for (Object[] row : rows) segment = Tables.segment(row, number, segment);
+        return segment;
     }
 
     /** Returns the last segment. */
@@ -291,23 +290,21 @@ final class SharedLog {
         return ended(segment(asked("select max(number) from INsegment")));
     }
 
-    /** Returns a segment with what is before it. */
+    /** Returns a segment with the place at which it ended. */
     SegmentEnd ended(Segment segment) throws IOException {
-        Segment before =
-                segment.number() == 0 ? Segment.START : segment(segment.number() - 1);
-        return new SegmentEnd(segment, before,
+        return new SegmentEnd(segment,
                 asked("select last_place from INsegment where number = ?", segment.number()));
     }
 
-    /**
-     * Writes the text of a segment to the sink, piece by piece.
-     *
-     * @throws DamagedException if it isn't the one that was saved, at its end at the latest
-     */
-    void text(Segment segment, String previous, Segment.Sink sink) throws IOException {
+    /** Returns how many bytes the text of a segment has. */
+    long length(Segment segment) throws IOException {
+        return asked("select length from INsegment where number = ?", segment.number());
+    }
+
+    /** Writes the text of a segment to the sink, piece by piece; the pieces alone are checked. */
+    void text(Segment segment, Trail.Sink sink) throws IOException {
         long number = segment.number();
-        long length = asked("select length from INsegment where number = ?", number);
-        MessageDigest digest = segment.digestStart(previous, length);
+        long length = length(segment);
         long done = 0;
         for (int place = 0; done < length; place++) {
             List<Object[]> data = run("select data from INpiece where segment = ? and place = ?", number, place);
@@ -316,12 +313,9 @@ final class SharedLog {
             if (piece.length == 0)
                 throw new DamagedException(number,
                         "its piece " + place + " is missing or isn't the one that was saved");
-            digest.update(piece);
             sink.take(piece, piece.length);
             done += piece.length;
         }
-        if (!Segment.hex(digest).equals(segment.digest()))
-            throw new DamagedException(number, "its text isn't the one that was saved");
     }
 
     void close() {

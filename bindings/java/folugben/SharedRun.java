@@ -165,40 +165,34 @@ public final class SharedRun implements AutoCloseable {
      * @throws UncheckedIOException as {@link #join}
      */
     public static Auditor.Counts audit(String target) {
-        try (Auditor auditor = new Auditor()) {
-            read(target, (log, segment, before)
-                    -> segment.audit(sink -> log.text(segment, before.digest(), sink), auditor),
-                    auditor::feed);
-            return auditor.end();
+        try (Trail trail = new Trail()) {
+            read(target, trail::take);
+            return trail.counts();
         }
     }
 
     /** Writes all of the log by now to one file, which {@link Auditor#audit} reads. */
     public static void save(String target, OutputStream out) {
-        read(target, (log, segment, before) -> {
-            log.text(segment, before.digest(), (piece, length) -> {}); // the digest comes first
-            log.text(segment, before.digest(), (piece, length) -> write(out, piece));
-        }, text -> write(out, text));
+        read(target, (segment, length, source) -> {
+            Trail.verify(segment, length, source); // the digest comes first
+            source.give((piece, size) -> write(out, piece, size));
+        });
     }
 
-    private static void write(OutputStream out, byte[] text) {
+    private static void write(OutputStream out, byte[] text, int length) {
         try {
-            out.write(text);
+            out.write(text, 0, length);
         } catch (IOException fault) {
             throw new UncheckedIOException(fault);
         }
     }
 
     private interface SegmentReader {
-        void read(SharedLog log, Segment segment, Segment before) throws IOException;
+        void read(Segment segment, long length, Trail.Source source) throws IOException;
     }
 
-    private interface TextReader {
-        void read(byte[] text);
-    }
-
-    /** Reads all segments of a run, and the journals of what is after the last one. */
-    private static void read(String target, SegmentReader segments, TextReader rest) {
+    /** Reads all segments of a run, and what is after the last one. */
+    private static void read(String target, SegmentReader reader) {
         reaching(() -> {
             SharedLog log = SharedLog.read(target(target));
             try {
@@ -206,11 +200,13 @@ public final class SharedRun implements AutoCloseable {
                 while (true) {
                     List<Segment> all = log.segments();
                     for (Segment next : all.subList((int) last.number() + 1, all.size())) {
-                        segments.read(log, next, last);
+                        reader.read(next, log.length(next), sink -> log.text(next, sink));
                         last = next;
                     }
                     try {
-                        Replica.rest(log, last).forEach(rest::read);
+                        for (Replica.EndedSegment it : Replica.rest(log, last))
+                            reader.read(it.segment(), it.text().length,
+                                    sink -> sink.take(it.text(), it.text().length));
                         return null;
                     } catch (SharedLog.OutdatedException behind) {
                         // Further segments were saved meanwhile.

@@ -245,6 +245,27 @@ public sealed class Step extends StepCalls implements AutoCloseable permits Shar
     }
 
     /**
+     * Returns whether a scan would list a location, at the cost of one.
+     *
+     * <p>The step then depends on the whole function, as after a scan.
+     *
+     * @throws FolugbenException as scan
+     */
+    public boolean any(String name) {
+        return found(name, Calls::asm_any, () -> room.number(0)) > 0;
+    }
+
+    /**
+     * Returns how many locations a scan would list, and makes no list; at most Long.MAX_VALUE.
+     *
+     * @throws FolugbenException as scan
+     */
+    public long count(String name) {
+        long count = found(name, Calls::asm_count, () -> room.wide(0));
+        return count < 0 ? Long.MAX_VALUE : count;
+    }
+
+    /**
      * Pushes the move [INSTR, ..], through which later calls see.
      *
      * <p>A move that is refused or popped was a dry run.

@@ -2,6 +2,7 @@ package folugben;
 
 import java.util.List;
 import java.util.Objects;
+import java.util.function.LongSupplier;
 import java.util.function.Supplier;
 
 /** A step's fields, and its calls on the library, with the lock of its agent. */
@@ -300,6 +301,29 @@ abstract sealed class StepCalls permits Step {
         player.stepScans(name);
         player.observe(result.text());
         return new Actor.State(before() + number, result.text());
+    }
+
+    /** A call on an agent and a step that is passed a name and writes a number. */
+    interface NameCall {
+        int call(long agent, long step, long name, long length, long number);
+    }
+
+    /** Returns the number that the call writes of a function. */
+    final long found(String name, NameCall call, LongSupplier read) {
+        byte[] text = Texts.utf8(name, "name");
+        Turns.Player player = Turns.Player.call(this);
+        synchronized (agent.slot) {
+            long step = slot().at;
+            Code code = room.make(text, (at, out, length, written)
+                    -> call.call(agent.slot.at, step, at, text.length, room.numbers()));
+            ManyException.expectPlaces(expectUnmoved(code));
+            FolugbenException.expect(code);
+            size += text.length;
+            long found = read.getAsLong();
+            player.stepScans(name);
+            player.observe("" + found);
+            return found;
+        }
     }
 
     /** Pops into a move. */

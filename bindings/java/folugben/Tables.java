@@ -76,12 +76,12 @@ final class Tables {
         return count(value, Long.MAX_VALUE, segment);
     }
 
-    /** Returns a segment of its row. */
-    static Segment segment(Object[] row, long number) {
+    /** Returns a segment of its row, after another one. */
+    static Segment segment(Object[] row, long number, Segment before) {
         expect(row[4] instanceof String text && DIGEST.matcher(text).matches(), number,
                 "its row has no digest");
-        return new Segment(count(row[0], number), count(row[1], number), count(row[2], number),
-                count(row[3], number), (String) row[4]);
+        return Segment.of(count(row[0], number), count(row[1], number), count(row[2], number),
+                count(row[3], number), (String) row[4], before);
     }
 
     /** Returns a call of its row. */

@@ -195,6 +195,98 @@ final class AuditTests {
         }
     }
 
+    /** Makes a run of a folder, of so many segments of so many moves after the first. */
+    private static void run(Path path, int segments, int moves) {
+        try (Run run = RunTests.open(path, moves); RunAgent agent = run.agent(0)) {
+            for (int i = 0; i < segments * moves; i++) RunTests.count(agent);
+        }
+    }
+
+    private static byte[] part(int count, int moves) {
+        try (Storage storage = Storage.open(Map.of(COUNT, count), moves + 1)) {
+            try (Agent agent = storage.agent(0)) {
+                for (int i = 0; i < moves; i++)
+                    agent.fire(List.of(Instruction.inc(COUNT, 1)), List.of());
+            }
+            return bytes(storage.closeJournal());
+        }
+    }
+
+    /** What is fed before or after a folder is one run with it. */
+    private static void foldersAndBytesAreOneRun(Path path) throws IOException {
+        run(path, 3, 2);
+        long size = 0;
+        for (Path file : RunTests.files(path)) size += Files.size(file);
+        try (Auditor auditor = new Auditor()) {
+            equal(auditor.feed(path), new Auditor.Counts(4, 6, 6));
+            equal(auditor.taken(), size);
+            equal(auditor.state(), "[[[\"count\"],6]]");
+            equal(auditor.feed(new byte[0]), new Auditor.Counts(4, 6, 6));
+            byte[] next = part(6, 3);
+            equal(auditor.feed(next), new Auditor.Counts(5, 9, 9));
+            equal(auditor.taken(), size + next.length);
+            equal(auditor.end(), new Auditor.Counts(5, 9, 9));
+        }
+        try (Auditor auditor = new Auditor()) {
+            auditor.feed(part(-2, 2));
+            equal(auditor.feed(path), new Auditor.Counts(5, 8, 8));
+            equal(auditor.end(), new Auditor.Counts(5, 8, 8));
+            equal(auditor.state(), "[[[\"count\"],6]]");
+        }
+        try (Auditor auditor = new Auditor()) {
+            auditor.feed(path);
+            AuditException fault = (AuditException) refused(Code.APART, () -> auditor.feed(path));
+            equal(fault.part(), 0L);
+        }
+    }
+
+    private static long damagedAt(Runnable call) {
+        try {
+            call.run();
+        } catch (DamagedException fault) {
+            return fault.segment();
+        }
+        throw new IllegalStateException("a folder with a fault is taken");
+    }
+
+    /** An audit of a folder with a fault ends with it. */
+    private static void faultsOfFoldersStay(Path path) throws IOException {
+        run(path, 3, 2);
+        Path file = RunTests.files(path).get(2);
+        byte[] text = Files.readAllBytes(file);
+        text[text.length - 3] ^= 1;
+        Files.write(file, text);
+        try (Auditor auditor = new Auditor()) {
+            for (Runnable call : List.<Runnable>of(() -> auditor.feed(path), auditor::end,
+                         () -> auditor.feed(new byte[1]), () -> auditor.feed(path)))
+                equal(damagedAt(call), 2L);
+            equal(auditor.counts(), new Auditor.Counts(2, 2, 2));
+        }
+    }
+
+    private static long bytesRead() throws IOException {
+        return Files.readAllLines(Path.of("/proc/self/io")).stream()
+                .filter(it -> it.startsWith("rchar: "))
+                .mapToLong(it -> Long.parseLong(it.substring(7)))
+                .sum();
+    }
+
+    /** An audit reads each byte of a folder once; to resume may too, and reads no more. */
+    private static void foldersAreReadOnce(Path path) throws IOException {
+        run(path, 3, 3_000);
+        long size = 0;
+        for (Path file : RunTests.files(path)) size += Files.size(file);
+        Auditor.audit(path);
+        Run.resume(path).close();
+        for (Runnable call :
+                List.<Runnable>of(() -> Auditor.audit(path), () -> Run.resume(path).close())) {
+            long before = bytesRead();
+            call.run();
+            long read = bytesRead() - before;
+            equal(size <= read && 2 * read < 3 * size, true);
+        }
+    }
+
     static void all() {
         try {
             runsAreAuditedInAnyPieces();
@@ -203,8 +295,12 @@ final class AuditTests {
             faultsPersist();
             closedOnesSaySo();
             agentsContinueAndAreCheckedOut();
-        } catch (IOException fault) {
-            throw new UncheckedIOException(fault);
+            for (RunTests.OnFile test : List.<RunTests.OnFile>of(
+                         AuditTests::foldersAndBytesAreOneRun, AuditTests::faultsOfFoldersStay,
+                         AuditTests::foldersAreReadOnce))
+                RunTests.withFile(test);
+        } catch (Exception fault) {
+            throw fault instanceof RuntimeException error ? error : new IllegalStateException(fault);
         }
         System.out.println("audits");
     }

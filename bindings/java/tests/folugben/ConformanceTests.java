@@ -152,7 +152,7 @@ final class ConformanceTests {
             case "compose" -> Moves.compose(own, words.get(1));
             case "audit" -> audited(string(own));
             case "explain" -> quoted(Storage.explain(Storage.Form.valueOf(string(own)), string(words.get(1))));
-            case "begin", "end", "get", "get_at", "see", "get_all", "has", "count_of", "size", "push", "push_move", "extend",
+            case "begin", "end", "get", "get_at", "see", "get_all", "has", "count_of", "size", "any", "count", "push", "push_move", "extend",
                     "extend_move", "pop", "pop_move", "depth", "offer", "commit" -> ofStep(name, own, words.subList(1, words.size()));
             case "read" -> read(own, agents.get(own), words.get(1));
             default -> ofAgent(name, agents.get(own), words.subList(1, words.size()));
@@ -221,6 +221,8 @@ final class ConformanceTests {
             case "has" -> "" + step.has(Location.parse(words.get(0)), (Element) Value.parse(words.get(1)));
             case "count_of" -> "" + step.countOf(Location.parse(words.get(0)), (Element) Value.parse(words.get(1)));
             case "size" -> "" + step.size(Location.parse(words.get(0)));
+            case "any" -> "" + step.any(string(words.get(0)));
+            case "count" -> "" + step.count(string(words.get(0)));
             case "push" -> nothing(() -> step.push(words.get(0)));
             case "extend" -> nothing(() -> step.extend(words.get(0)));
             case "pop" -> nothing(step::pop);

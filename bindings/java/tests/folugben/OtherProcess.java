@@ -46,8 +46,8 @@ final class OtherProcess {
             throw new IllegalStateException("failed: " + words);
     }
 
-    private static void play(Path path) throws Exception {
-        try (Run run = Run.open(ResumeTests.opening(), path, 20)) {
+    private static void play(Path path, int kept) throws Exception {
+        try (Run run = Run.open(ResumeTests.opening(), path, 20).keep(kept)) {
             RunTests.inThreads(run, 4, agent -> ResumeTests.work(agent, 10_000_000));
         }
     }
@@ -61,7 +61,8 @@ final class OtherProcess {
                 System.exit(error.getMessage().endsWith("another run uses the folder") ? 3 : 4);
             }
             case "fill" -> RunEndTests.fill(path);
-            default -> play(path);
+            case "keep" -> play(path, 2);
+            default -> play(path, Integer.MAX_VALUE);
         }
     }
 }

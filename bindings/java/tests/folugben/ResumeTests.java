@@ -4,7 +4,6 @@ import static folugben.Test.Checks.equal;
 
 import java.io.IOException;
 import java.io.UncheckedIOException;
-import java.nio.ByteBuffer;
 import java.nio.charset.StandardCharsets;
 import java.nio.file.FileAlreadyExistsException;
 import java.nio.file.FileSystemException;
@@ -213,8 +212,8 @@ final class ResumeTests {
         try (Run run = Run.resume(path)) { // an earlier, legal run
             equal(run.saved(), 4L);
         }
-        Files.delete(files.get(0));
-        isDamaged(path, 0, Run.Check.LAST);
+        Files.delete(files.get(1));
+        isDamaged(path, 1, Run.Check.LAST);
     }
 
     /** A text that isn't legal is refused even if its digest is right. */
@@ -225,8 +224,8 @@ final class ResumeTests {
         byte[] text = Files.readString(last).replace("fired\":1", "fired\":2")
                 .getBytes(StandardCharsets.UTF_8);
         Files.delete(last);
-        Segment wrong = segments.get(2).following(1, 1, ByteBuffer.wrap(text));
-        Files.write(path.resolve(wrong.name(segments.get(2).digest())), text);
+        Segment wrong = Trail.after(segments.get(2), 1, 1, text);
+        Files.write(path.resolve(wrong.name()), text);
         for (Run.Check check : Run.Check.values())
             try {
                 Run.resume(path, check).close();

@@ -99,7 +99,8 @@ final class RunTests {
         try {
             long reads = text(path).lines().filter(it -> it.contains("\"call\":{\"read\":")).count();
             equal(reads > 0, isRecording && counts.moves() > 0);
-            return new Auditor.Counts(counts.parts(), counts.calls() - reads, counts.moves());
+            return new Auditor.Counts(
+                    counts.parts(), counts.calls() - reads, counts.moves(), counts.before());
         } catch (IOException fault) {
             throw new UncheckedIOException(fault);
         }

@@ -133,6 +133,8 @@ final class StepTests {
         try (Storage storage = new Storage(INIT, 8); Agent agent = storage.agent(0)) {
             Step step = agent.step();
             equal(step.scan("y"), new Agent.State(0, "[[[\"y\",1],\"one\"]]"));
+            equal(step.any("y") && !step.any("none"), true);
+            equal(List.of(step.count("y"), step.count("none")), List.of(1L, 0L));
             step.push(put("x", "10"));
             equal(step.tryCommit(), new Agent.Reply(Code.DONE, 1, 0, 0, null, true));
             refused(Code.EMPTY, step::commit);

@@ -221,6 +221,7 @@ public final class Test {
         RunEndTests.all();
         ResumeTests.all();
         ResumeTests.SavingTests.all();
+        KeepTests.all();
         SharedTests.all();
     }
 
