@@ -7,7 +7,7 @@ use crate::sys;
 use crate::value::{Location, Value};
 use std::{fmt, io};
 
-/// The counts of a run.
+/// The counts of a run, from its beginning, or from the first part that wasn't dropped.
 #[derive(Clone, Copy, Debug, Default, PartialEq, Eq)]
 #[non_exhaustive]
 pub struct Counts {
@@ -17,24 +17,27 @@ pub struct Counts {
     pub calls: u64,
     /// How many of them fired a move.
     pub moves: u64,
+    /// The number of the first part that is counted; those before it were dropped.
+    pub first_part: u64,
+    /// How many moves those have.
+    pub moves_before: u64,
 }
 
 impl Counts {
-    fn of(numbers: sys::AuditNumbers) -> Counts {
-        Counts { parts: numbers.parts, calls: numbers.calls, moves: numbers.moves }
-    }
-
-    pub(crate) fn add(&mut self, more: Counts) {
-        self.parts += more.parts;
-        // Only the names of a damaged run have more than all calls that there may be.
-        self.calls = self.calls.wrapping_add(more.calls);
-        self.moves = self.moves.wrapping_add(more.moves);
+    pub(crate) fn of(numbers: sys::AuditNumbers) -> Counts {
+        let sys::AuditNumbers { parts, calls, moves } = numbers;
+        Counts { parts, calls, moves, ..Counts::default() }
     }
 }
 
 impl fmt::Display for Counts {
     fn fmt(&self, f: &mut fmt::Formatter<'_>) -> fmt::Result {
-        write!(f, "{} calls, {} moves, {} parts", self.calls, self.moves, self.parts)
+        let Counts { parts, calls, moves, first_part, moves_before } = self;
+        write!(f, "{calls} calls, {moves} moves, {parts} parts")?;
+        match first_part {
+            0 => Ok(()),
+            _ => write!(f, ", from part {first_part} on, after {moves_before} moves"),
+        }
     }
 }
 
@@ -72,7 +75,7 @@ pub enum AuditError {
 
 impl AuditError {
     /// Returns the fault of a code of the audit, except `DONE`, and `LONG_LINE`, which comes without numbers.
-    fn of(code: i32, numbers: sys::AuditNumbers) -> AuditError {
+    pub(crate) fn of(code: i32, numbers: sys::AuditNumbers) -> AuditError {
         let sys::AuditNumbers { parts: part, calls, .. } = numbers;
         let journal = |fault| AuditError::Journal { part, fault };
         match code {

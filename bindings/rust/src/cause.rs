@@ -105,6 +105,11 @@ impl OutOfRange {
         Error::Range(OutOfRange { what: "the capacity", value: value.into(), least: 1, most: 1 << 20 })
     }
 
+    /// How many segments of a run stay.
+    pub(crate) fn keep(value: u64) -> Error {
+        Error::Range(OutOfRange { what: "the number of kept segments", value, least: 1, most: u64::MAX })
+    }
+
     pub(crate) fn agents(count: usize) -> Error {
         Error::Range(OutOfRange { what: "the count of agents", value: count as u64, least: 0, most: 256 })
     }

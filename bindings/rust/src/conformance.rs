@@ -264,6 +264,8 @@ impl Replayer {
                 let at = typed(next().location())?;
                 return self.step(number, |it| Ok(it.size(at)?.to_string()));
             }
+            "any" => return self.step(number, |it| Ok(it.any(&next().text().unwrap())?.to_string())),
+            "count" => return self.step(number, |it| Ok(it.count(&next().text().unwrap())?.to_string())),
             // The step of an agent that was returned is gone with it.
             "depth" if !self.agents.contains_key(&number) => return Ok("0".to_owned()),
             "depth" => return self.step(number, |it| Ok(it.depth().to_string())),

@@ -59,6 +59,7 @@ mod audit;
 mod cause;
 #[cfg(test)]
 mod conformance;
+mod counting;
 mod error;
 mod holder;
 mod instruction;

@@ -24,26 +24,28 @@ mod folder;
 mod lines;
 mod part;
 mod parts;
+mod reading;
 mod seat;
-mod segment;
-mod sha256;
+mod trail;
 mod writer;
 
 pub use agent::{RunAgent, RunStep};
 pub use ended::{Broken, EndCause};
 pub(crate) use lines::short;
+pub use reading::audit_run;
 pub(crate) use seat::SeatStep;
-pub use segment::audit_run;
 
-use crate::audit::{Auditor, Counts};
+use crate::audit::Counts;
 use crate::cause::OutOfRange;
 use crate::error::Error;
 use crate::number::AgentNumber;
 use crate::run::folder::RunFolder;
 use crate::run::part::Limits;
 use crate::run::parts::Core;
+use crate::run::reading::names;
 use crate::storage::Storage;
 use crate::value::{Location, Value};
+use std::ffi::OsString;
 use std::fmt;
 use std::path::{Path, PathBuf};
 use std::sync::Arc;
@@ -84,12 +86,13 @@ pub struct RunOptions {
     receipts: Option<u64>,
     every: Option<Duration>,
     is_recording: bool,
+    keep: Option<u64>,
 }
 
 impl RunOptions {
     /// Makes options for parts of 100,000 moves.
     pub fn new() -> RunOptions {
-        RunOptions { moves: MOVES, receipts: None, every: None, is_recording: false }
+        RunOptions { moves: MOVES, receipts: None, every: None, is_recording: false, keep: None }
     }
 
     /// Ends each part after this number of moves, 1 to 1,048,576.
@@ -117,6 +120,18 @@ impl RunOptions {
         RunOptions { is_recording, ..self }
     }
 
+    /// Keeps this many of the last segments, at least 1: after each save older ones are removed, one after the other.
+    ///
+    /// A run whose first segments were removed may be audited and resumed; it then begins with the state with which the first
+    /// segment opens that is there. By default all segments stay.
+    pub fn keep(self, segments: u64) -> RunOptions {
+        RunOptions { keep: Some(segments), ..self }
+    }
+
+    fn expect_keep(self) -> Result<(), Error> {
+        if self.keep == Some(0) { Err(OutOfRange::keep(0)) } else { Ok(()) }
+    }
+
     /// Opens a run with this state in a folder that is new or empty.
     ///
     /// It begins with a segment without a move, so that it may be resumed from then on.
@@ -126,24 +141,26 @@ impl RunOptions {
     /// - [`Error::File`]: of the kind `AlreadyExists` if there is a run or anything else; or the folder can't be written.
     /// - [`Error::InUse`]: another process makes a run there.
     /// - [`Error::TooLong`]: the state is too long for a line.
-    /// - [`Error::Range`]: the number of moves is out of its range.
+    /// - [`Error::Range`]: the number of moves, or that of the segments to keep, is out of its range.
     /// - [`Error::Refused`]: as of [`Storage::open`].
     pub fn open(
         self,
         state: impl IntoIterator<Item = (Location, Value)>,
         path: impl AsRef<Path>,
     ) -> Result<Run, Error> {
+        self.expect_keep()?;
         let storage = Storage::open(state, self.moves)?;
         let opening = storage.close()?;
         lines::events(opening.as_bytes())?;
         let path = path.as_ref();
         let folder = writer::on_own_thread(|| RunFolder::create(path, opening.as_bytes()))?;
-        self.start(storage, folder)
+        let there = names(folder.path())?;
+        self.start(storage, folder, there)
     }
 
     /// Resumes a run from the end of its last segment, also if its process was killed.
     ///
-    /// Nothing is cut or removed.
+    /// That cuts and removes nothing.
     ///
     /// # Errors
     ///
@@ -152,28 +169,29 @@ impl RunOptions {
     /// - [`Error::InUse`]: another run uses the folder.
     /// - [`Error::Damaged`]: a segment is missing, or isn't the one that was saved.
     /// - [`Error::Audit`]: a segment isn't legal.
-    /// - [`Error::Range`]: the number of moves is out of its range.
+    /// - [`Error::Range`]: the number of moves, or that of the segments to keep, is out of its range.
     pub fn resume(self, path: impl AsRef<Path>, check: Check) -> Result<Run, Error> {
+        self.expect_keep()?;
         let path = path.as_ref();
-        let (folder, segments) = writer::on_own_thread(|| RunFolder::reopen(path))?;
-        let checked = match check {
-            Check::All => &segments[..],
-            Check::Last => &segments[segments.len() - 1..],
+        let (mut folder, names) = writer::on_own_thread(|| RunFolder::reopen(path))?;
+        let unread = match check {
+            Check::All => 0,
+            Check::Last => names.len() - 1,
         };
-        let mut auditor = Auditor::new();
-        for segment in checked {
-            segment.audit(folder.path(), &mut auditor)?;
-        }
-        let state = auditor.state_text()?.ok_or(Error::NoJournal)?;
+        let (before, checked) = names.split_at(unread);
+        let state = folder.read(before, checked)?;
         let storage = Storage::open_text(&state, self.moves)?;
         lines::expect_state(&storage)?;
-        self.start(storage, folder)
+        self.start(storage, folder, names)
     }
 
-    fn start(self, storage: Storage, folder: RunFolder) -> Result<Run, Error> {
+    fn start(self, storage: Storage, mut folder: RunFolder, there: Vec<OsString>) -> Result<Run, Error> {
         let each = if self.is_recording { 4 } else { 2 };
         let receipts = self.receipts.unwrap_or(each * u64::from(self.moves));
         let limits = Limits { moves: self.moves, receipts, every: self.every, is_recording: self.is_recording };
+        if let Some(most) = self.keep {
+            folder.set_keep(most, there);
+        }
         let core = Arc::new(Core::new(storage, limits, folder.counts()));
         let (path, shared) = (folder.path().to_owned(), Arc::clone(&core));
         let writer =
@@ -287,9 +305,10 @@ impl Run {
         &self.path
     }
 
-    /// Returns how much of the run is on the disk.
+    /// Returns how much of the run is on the disk, or was until it was removed ([`RunOptions::keep`]).
     ///
-    /// Each move with a number up to `moves` is safe, also from a power failure.
+    /// Each move with a number up to `moves` is safe, also from a power failure. Of parts that were removed before the run was
+    /// resumed the calls aren't counted.
     #[must_use]
     pub fn saved(&self) -> Counts {
         self.core.saved()

@@ -30,6 +30,25 @@ pub(crate) struct AuditNumbers {
     pub(crate) moves: u64,
 }
 
+/// What the name of a segment says.
+#[repr(C)]
+#[derive(Clone, Copy, Default)]
+pub(crate) struct Segment {
+    pub(crate) number: u64,
+    pub(crate) first: u64,
+    pub(crate) moves: u64,
+    pub(crate) events: u64,
+}
+
+/// What is saved of a run.
+#[repr(C)]
+#[derive(Clone, Copy, Default)]
+pub(crate) struct RunNumbers {
+    pub(crate) first: u64,
+    pub(crate) segments: u64,
+    pub(crate) moves: u64,
+}
+
 /// A set of signals, as glibc on x86-64 has it.
 #[repr(C)]
 #[derive(Default)]
@@ -192,6 +211,8 @@ unsafe extern "C" {
         count: *mut u32,
     ) -> i32;
     pub(crate) fn asm_size(agent: *mut Slot, step: *mut Slot, at: *mut Slot, size: *mut u64) -> i32;
+    pub(crate) fn asm_any(agent: *mut Slot, step: *mut Slot, name: *const u8, len: usize, any: *mut u32) -> i32;
+    pub(crate) fn asm_count(agent: *mut Slot, step: *mut Slot, name: *const u8, len: usize, count: *mut u64) -> i32;
     pub(crate) fn asm_instruct(
         instrs: *mut Slot,
         at: *mut Slot,
@@ -240,6 +261,34 @@ unsafe extern "C" {
     ) -> i32;
     pub(crate) fn asm_audited(audit: *mut Slot, told: *mut AuditNumbers) -> i32;
     pub(crate) fn asm_audit_state(audit: *mut Slot, out: *mut u8, room: usize, written: *mut usize) -> i32;
+    pub(crate) fn asm_run_open(run: *mut Slot) -> i32;
+    pub(crate) fn asm_run_name(run: *mut Slot, name: *const u8, len: usize, bytes: u64, found: *mut Segment) -> i32;
+    pub(crate) fn asm_run_text(run: *mut Slot, bytes: *const u8, len: usize) -> i32;
+    pub(crate) fn asm_run_end(run: *mut Slot, told: *mut AuditNumbers) -> i32;
+    pub(crate) fn asm_run_skip(run: *mut Slot) -> i32;
+    pub(crate) fn asm_run_state(run: *mut Slot, out: *mut u8, room: usize, written: *mut usize) -> i32;
+    pub(crate) fn asm_run_read(run: *mut Slot) -> i32;
+    pub(crate) fn asm_run_hand(
+        run: *mut Slot,
+        moves: u64,
+        events: u64,
+        text: *const u8,
+        len: usize,
+        out: *mut u8,
+        room: usize,
+        written: *mut usize,
+    ) -> i32;
+    pub(crate) fn asm_run_drop(run: *mut Slot, number: *mut u64) -> i32;
+    pub(crate) fn asm_run_request(run: *mut Slot, request: *mut i32) -> i32;
+    pub(crate) fn asm_run_done(run: *mut Slot) -> i32;
+    pub(crate) fn asm_run_failed(run: *mut Slot) -> i32;
+    pub(crate) fn asm_run_saved(
+        run: *mut Slot,
+        saved: *mut RunNumbers,
+        out: *mut u8,
+        room: usize,
+        written: *mut usize,
+    ) -> i32;
     pub(crate) fn asm_replay(
         journal: *const u8,
         len: usize,
@@ -322,6 +371,15 @@ mod codes {
     pub(crate) const MANY_CALLS: i32 = 33;
     pub(crate) const LONG_LINE: i32 = 34;
     pub(crate) const LONG_MOVE: i32 = 35;
+    pub(crate) const NAME: i32 = 36;
+    pub(crate) const ORDER: i32 = 37;
+    pub(crate) const NOT_NEXT: i32 = 38;
+    pub(crate) const OPENING: i32 = 39;
+    pub(crate) const PREVIOUS: i32 = 40;
+    pub(crate) const DAMAGED: i32 = 41;
+    pub(crate) const COUNTS: i32 = 42;
+    pub(crate) const LONG_RUN: i32 = 43;
+    pub(crate) const ONE_SEGMENT: i32 = 44;
 }
 pub(crate) use codes::*;
 // End of what tools/declarations writes.

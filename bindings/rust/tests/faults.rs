@@ -49,8 +49,10 @@ fn is_child() {
     let Ok(task) = env::var(TASK) else { return };
     let (task, path) = task.split_once(':').unwrap();
     match task {
-        "plays" => plays(Path::new(path)),
-        "notes" => notes(Path::new(path)),
+        "plays" => plays(Path::new(path), MANY),
+        "plays_kept" => plays(Path::new(path), KEPT),
+        "notes" => notes(Path::new(path), MANY),
+        "notes_kept" => notes(Path::new(path), KEPT),
         "fails" => fails(Path::new(path)),
         "fails_at_once" => {
             let error = Run::open([], path, 100).unwrap_err();
@@ -61,14 +63,18 @@ fn is_child() {
     }
 }
 
-fn opened(path: &Path) -> Run {
-    let options = RunOptions::new().moves(50);
+/// How many segments stay.
+const KEPT: u64 = 2;
+const MANY: u64 = 1_000_000;
+
+fn opened(path: &Path, keep: u64) -> Run {
+    let options = RunOptions::new().moves(50).keep(keep);
     options.resume(path, Check::Last).or_else(|_| options.open([(count(), 0.into())], path)).unwrap()
 }
 
 /// Plays until it is killed, and prints each number of moves that is saved.
-fn plays(path: &Path) {
-    let run = opened(path);
+fn plays(path: &Path, keep: u64) {
+    let run = opened(path, keep);
     println!("saved {}", run.saved().moves);
     thread::scope(|threads| {
         for mut agent in run.agents(3).unwrap() {
@@ -85,11 +91,11 @@ fn plays(path: &Path) {
 }
 
 /// Kills a process so often, and goes on with its run; returns the number of moves in the end.
-fn kill(times: u64) -> u64 {
-    let room = Room::new("killed");
+fn kill(times: u64, task: &str) -> u64 {
+    let room = Room::new(&format!("killed-{task}"));
     let (mut draw, mut moves) = (Draw(77), 0);
     for round in 0..times {
-        let mut child = child("plays", room.path()).stdout(Stdio::piped()).spawn().unwrap();
+        let mut child = child(task, room.path()).stdout(Stdio::piped()).spawn().unwrap();
         let lines = BufReader::new(child.stdout.take().unwrap()).lines();
         let mut reports = lines.filter_map(|it| it.ok()?.strip_prefix("saved ")?.parse::<u64>().ok());
         // Some are killed before their run is there.
@@ -115,31 +121,40 @@ fn kill(times: u64) -> u64 {
             Err(error) => panic!("{error}"),
         }
     }
-    let (counts, state) = room.audited();
-    assert_eq!(state, [(count(), Value::from(i64::try_from(moves).unwrap()))]);
-    assert_eq!(counts.moves, moves);
+    assert_eq!(room.state(), [(count(), Value::from(i64::try_from(moves).unwrap()))]);
+    let counts = audit_run(room.path()).unwrap();
+    assert_eq!(counts.moves_before + counts.moves, moves);
+    assert_eq!(counts.first_part > 0, task == "plays_kept");
     moves
 }
 
 #[test]
 fn a_run_that_is_killed_is_resumed() {
-    kill(10);
+    kill(10, "plays");
+}
+
+#[test]
+fn a_run_that_drops_segments_and_is_killed_is_resumed() {
+    kill(10, "plays_kept");
 }
 
 #[test]
 #[ignore = "it takes minutes"]
 fn a_run_that_is_killed_300_times_is_resumed() {
-    println!("{} moves", kill(300));
+    println!("{} and {} moves", kill(300, "plays"), kill(300, "plays_kept"));
 }
 
-/// Saves some segments, and notes how many are reported as saved.
-fn notes(path: &Path) {
+/// Saves some segments, and notes how many are reported as saved. A copy of each stays beside the folder.
+fn notes(path: &Path, keep: u64) {
     let report = |parts: u64| {
         use std::io::Write;
+        for it in fs::read_dir(path).unwrap().map(|it| it.unwrap()).filter(|it| it.file_name() != "lock") {
+            let _ = fs::hard_link(it.path(), path.with_extension("copies").join(it.file_name()));
+        }
         let mut log = fs::File::options().append(true).create(true).open(env::var("SHIM_LOG").unwrap()).unwrap();
         log.write_all(format!("told {parts} \n").as_bytes()).unwrap();
     };
-    let run = opened(path);
+    let run = opened(path, keep);
     report(run.saved().parts);
     let mut agent = run.agent(0).unwrap();
     for _ in 0..6 {
@@ -148,15 +163,18 @@ fn notes(path: &Path) {
         }
         report(run.flush().unwrap().parts);
     }
+    report(run.close().unwrap().parts);
 }
 
 /// Resumes from so many states that a power failure may leave; returns how many of them lost what was reported as saved.
-fn fail(times: u64, notes_folder: bool) -> u64 {
+fn fail(task: &str, times: u64, notes_folder: bool) -> u64 {
     let (mut draw, mut lost, mut tried) = (Draw(4), 0, 0);
     while tried < times {
-        let (room, log, copy) = (Room::new("failure"), Room::new("failure-log"), Room::new("failure-copy"));
+        let [room, log, copy] = ["", "-log", "-copy"].map(|it| Room::new(&format!("failure-{task}{it}")));
+        let copies = room.path().with_extension("copies");
+        fs::create_dir_all(&copies).unwrap();
         for life in 0..3 {
-            let mut command = with_shim(child("notes", room.path()), room.path(), log.path());
+            let mut command = with_shim(child(task, room.path()), room.path(), log.path());
             if life < 2 {
                 command.env("SHIM_DIE", (1 + draw.below(30)).to_string());
             }
@@ -167,10 +185,11 @@ fn fail(times: u64, notes_folder: bool) -> u64 {
         assert!(calls.last().unwrap().starts_with("told "), "{log}");
         for _ in 0..30 {
             let at = draw.below(calls.len() as u64 + 1) as usize;
-            let left = crashes::crashed(&calls[..at], room.path(), notes_folder, &mut draw);
+            let left = crashes::crashed(&calls[..at], [room.path(), &copies], notes_folder, &mut draw);
             lost += u64::from(!is_complete(&left, copy.path()));
             tried += 1;
         }
+        fs::remove_dir_all(copies).unwrap();
     }
     lost
 }
@@ -196,16 +215,21 @@ fn is_complete(left: &crashes::AfterCrash, path: &Path) -> bool {
 
 #[test]
 fn a_power_failure_loses_nothing_that_was_saved() {
-    assert_eq!(fail(30, true), 0);
+    assert_eq!(fail("notes", 30, true), 0);
     // It would, if the folder weren't flushed.
-    assert!(fail(60, false) > 0);
+    assert!(fail("notes", 60, false) > 0);
+}
+
+#[test]
+fn a_power_failure_loses_nothing_but_what_was_dropped() {
+    assert_eq!(fail("notes_kept", 60, true), 0);
 }
 
 #[test]
 #[ignore = "it takes minutes"]
 fn power_failures_at_300_moments_lose_nothing_that_was_saved() {
-    assert_eq!(fail(300, true), 0);
-    println!("{} of 120 are lost where no folder is flushed", fail(120, false));
+    assert_eq!((fail("notes", 300, true), fail("notes_kept", 300, true)), (0, 0));
+    println!("{} of 120 are lost where no folder is flushed", fail("notes", 120, false));
 }
 
 /// The run's folder fails to be flushed.
@@ -335,7 +359,6 @@ fn names_of_segments_are_checked() {
     for (from, to, segment) in [
         (2, room.path().join("gone"), 2),
         (2, room.path().join("00000009-4-4-4-00-00.journal"), 2),
-        (0, room.path().join("gone"), 0),
         (0, name(0, "-0-0-0-", "-1-0-0-"), 0),
         (0, name(0, "-0-0-0-", "-0-1-0-"), 0),
         (0, name(0, "-0-0-0-", "-0-0-1-"), 0),
@@ -344,12 +367,10 @@ fn names_of_segments_are_checked() {
         (1, name(1, "-4-4-", "-+4-4-"), 1),
         (1, name(1, "-0-4-4-", "-1-4-4-"), 1),
         (1, name(1, "-0-4-4-", "-4-4-"), 1),
-        (1, name(1, "-4-4-", "-3-4-"), 2),
         (2, name(2, "-4-4-4-", "-4-18446744073709551612-4-"), 2),
         (2, name(2, "-4-4-4-", "-4-4-18446744073709551616-"), 2),
         (2, name(2, "-4-4-4-", "-4-4-4-0"), 2),
         (2, name(2, &digest(1), &zeros), 2),
-        (2, name(2, &digest(2), &zeros), 3),
         (2, name(2, &format!("-{}", digest(1)), ""), 2),
         (3, name(3, "00000003", "00000002"), 2),
         (4, name(4, "00000004", "00000005"), 4),
@@ -358,10 +379,25 @@ fn names_of_segments_are_checked() {
         assert_refused(&room, segment, both);
         fs::rename(&to, &segments[from]).unwrap();
     }
-    // What a copy or an editor leaves beside them doesn't matter, nor that the last segments were removed.
+    // What only the text shows is found there, or in the next name if the text isn't read.
+    for (from, to) in [(1, name(1, "-4-4-", "-3-4-")), (2, name(2, &digest(2), &zeros))] {
+        fs::rename(&segments[from], &to).unwrap();
+        assert_refused(&room, from as u64, &[Check::All]);
+        let last = Run::resume(room.path(), Check::Last).err();
+        assert!(matches!(last, Some(Error::Damaged { segment, .. }) if segment == from as u64 + 1), "{last:?}");
+        fs::rename(&to, &segments[from]).unwrap();
+    }
+    // What a copy or an editor leaves beside them doesn't matter, nor that the last segments were removed, or the first ones.
     fs::write(room.path().join("notes"), "").unwrap();
     fs::remove_file(&segments[4]).unwrap();
     assert_eq!(audit_run(room.path()).map(numbers), Ok((4, 12, 12)));
+    for (number, moves_before) in [(0, 0), (1, 4)] {
+        fs::remove_file(&segments[number]).unwrap();
+        let counts = audit_run(room.path()).unwrap();
+        let moves = 12 - moves_before;
+        assert_eq!(numbers(counts), (3 - number as u64, moves, moves));
+        assert_eq!((counts.first_part, counts.moves_before), (number as u64 + 1, moves_before));
+    }
 }
 
 #[test]

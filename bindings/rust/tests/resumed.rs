@@ -1,14 +1,14 @@
 //! Runs that are resumed: after a close, and what is refused.
 mod common;
 
-use common::{Room, add_one, count, fired, numbers, open};
+use common::{Room, add_one, count, numbers, open};
 use folugben::{AuditError, Check, EndCause, Error, JournalError, Run, RunOptions, Value, audit_run};
 use std::ffi::OsStr;
+use std::fs;
 use std::io::ErrorKind;
 use std::os::unix::ffi::OsStrExt;
 use std::os::unix::fs::{MetadataExt, chown, symlink};
 use std::process::Command;
-use std::{env, fs};
 
 /// A run of 3 segments, of which the last has 5 moves.
 fn played(room: &Room) -> Vec<u8> {
@@ -204,54 +204,6 @@ fn an_illegal_segment_is_reported_with_its_number() {
     let numbers = Some(Error::Damaged { segment: 2, why });
     assert_eq!(resume_with(&room, &text, 5, 4), [numbers.clone(), numbers]);
     assert_eq!(resume_with(&room, &text, 5, 5), [None, None]);
-}
-
-/// In a process of its own, in which a line may have 16 MiB, and not 1 GiB.
-#[test]
-fn too_long_lines_are_refused_and_nothing_is_lost() {
-    let mut command = Command::new(env::current_exe().unwrap());
-    let ran =
-        command.args(["--exact", "--ignored", "too_long_lines"]).env("FOLUGBEN_LINE", "16777216").output().unwrap();
-    let output = String::from_utf8_lossy(&ran.stdout);
-    assert!(ran.status.success() && output.contains("1 passed"), "{output}");
-}
-
-#[test]
-#[ignore = "the test above runs it, with a smaller limit"]
-fn too_long_lines() {
-    let room = Room::new("long");
-    let (half, long) = ("x".repeat(9_000_000), "x".repeat(16_777_216));
-    assert_eq!(Run::open([(count(), long.as_str().into())], room.path(), 5).err(), Some(Error::TooLong));
-    let run = open(&room, 3);
-    let mut agent = run.agent(0).unwrap();
-    assert_eq!(agent.play(|step| step.put("a", long.as_str())), Err(Error::TooLong));
-    assert_eq!(agent.play(|step| step.put("a", half.as_str())).map(fired), Ok(1));
-    assert_eq!(run.flush().unwrap().moves, 1);
-    assert_eq!(agent.play(|step| step.put("b", half.as_str())).map(fired), Ok(2));
-    // A read of both is too long to be recorded.
-    agent.set_recording(true);
-    let both = |step: &mut folugben::Step<'_>| {
-        step.get_each(&["a".into(), "b".into()])?;
-        step.put("c", 1)
-    };
-    assert_eq!(agent.play(both), Err(Error::TooLong));
-    let changes = agent.play(|step| {
-        for at in ["a", "b", "a", "b"] {
-            assert!(matches!(step.inc(at, 1), Err(Error::Clash { .. })));
-        }
-        step.put("c", 1)
-    });
-    assert_eq!(changes, Err(Error::TooLong));
-    agent.set_recording(false);
-    // Its part goes on until it is full, as no further one can open.
-    assert_eq!(run.flush(), Err(Error::TooLong));
-    assert_eq!(add_one(&mut agent), Ok(3));
-    assert_eq!(run.flush(), Err(Error::TooLong));
-    assert_eq!(add_one(&mut agent), Ok(4));
-    assert_eq!((agent.step().err(), add_one(&mut agent)), (Some(Error::TooLong), Err(Error::TooLong)));
-    assert_eq!(run.close().map(|it| it.moves), Ok(4));
-    assert_eq!(audit_run(room.path()).unwrap().moves, 4);
-    assert_eq!(Run::resume(room.path(), Check::Last).err(), Some(Error::TooLong));
 }
 
 #[test]

@@ -1,17 +1,19 @@
-//! The folder of a run, to which this run alone writes: one text file a segment. No segment is changed, cut or removed.
+//! The folder of a run, to which this run alone writes: one text file a segment. No segment is changed or cut.
 use crate::audit::Counts;
 use crate::error::Error;
-use crate::run::segment::{End, NO_FOLLOW, NO_WAIT, Segment, damaged, is_name, segments};
+use crate::run::reading::{NO_FOLLOW, is_name, names, read};
+use crate::run::trail::{Request, Trail, damaged};
 use crate::sys::effective_user;
+use std::collections::VecDeque;
+use std::ffi::{OsStr, OsString};
 use std::fs::{self, DirBuilder, File, Metadata, TryLockError};
 use std::io::{self, Write};
+use std::os::unix::ffi::OsStrExt;
 use std::os::unix::fs::{DirBuilderExt, MetadataExt, OpenOptionsExt};
 use std::path::{Path, PathBuf};
 
 const NEW: &str = "new";
 const LOCK: &str = "lock";
-/// A name has eight digits for the number of its segment.
-const MOST: u64 = 100_000_000;
 
 /// Which file it is, and how many bytes it has.
 #[derive(Clone, Copy, PartialEq, Eq)]
@@ -36,7 +38,13 @@ pub(crate) struct RunFolder {
     path: PathBuf,
     folder: File,
     lock: File,
-    end: End,
+    trail: Trail,
+    /// How many calls the segments have.
+    calls: u64,
+    /// How many segments stay, if older ones are dropped, and then the names of those that are there.
+    keep: Option<(u64, VecDeque<OsString>)>,
+    /// The file that becomes the next segment, while it is written.
+    new: Option<File>,
     /// The file of the last segment, once there is one.
     last: Option<(PathBuf, FileId)>,
 }
@@ -51,26 +59,38 @@ impl RunFolder {
         }
         let mut folder = RunFolder::open(real)?;
         expect_empty(&folder.path)?;
-        folder.save(opening, Counts { parts: 1, ..Counts::default() })?;
+        folder.trail.begin()?;
+        folder.save(opening, Counts::default())?;
         Ok(folder)
     }
 
-    /// The folder of an earlier run, with its segments, of which no text is read.
-    pub(crate) fn reopen(path: &Path) -> Result<(RunFolder, Vec<Segment>), Error> {
+    /// The folder of an earlier run, with the names in it, which are to be read before more are saved.
+    pub(crate) fn reopen(path: &Path) -> Result<(RunFolder, Vec<OsString>), Error> {
         if path.is_file() {
             let why = "a run is a folder, and this is a file";
             return Err(at(path, &io::Error::new(io::ErrorKind::NotADirectory, why)));
         }
         let real = unlinked(path).map_err(|error| at(path, &error))?;
-        segments(&real).map_err(|error| with_path(path, error))?; // nothing is made in a folder without a run
+        names(&real).map_err(|error| with_path(path, error))?; // nothing is made in a folder without a run
         let mut folder = RunFolder::open(real)?;
-        let all = segments(&folder.path)?;
+        let all = names(&folder.path)?;
         if let Some(last) = all.last() {
-            folder.end = last.end();
-            folder.know_last(last)?;
+            let file = folder.path.join(last);
+            let known = FileId::of(&fs::symlink_metadata(&file)?);
+            folder.last = Some((file, known));
         }
-        folder.drop_new()?;
+        folder.remove_new()?;
         Ok((folder, all))
+    }
+
+    /// Reads these names with their texts, after those before them without; returns the state that they leave.
+    pub(crate) fn read(&mut self, before: &[OsString], names: &[OsString]) -> Result<Vec<u8>, Error> {
+        before.iter().try_for_each(|it| self.trail.skip(it))?;
+        read(&self.path, names, &mut self.trail)?;
+        let state = self.trail.state_text()?;
+        self.trail.begin()?;
+        self.calls = self.trail.calls();
+        Ok(state)
     }
 
     fn open(path: PathBuf) -> Result<RunFolder, Error> {
@@ -87,14 +107,21 @@ impl RunFolder {
             Err(TryLockError::WouldBlock) => return Err(Error::InUse),
             Err(TryLockError::Error(error)) => return Err(at(&path, &error)),
         }
-        let opened = RunFolder { path, folder, lock, end: End::start(), last: None };
+        let mut opened =
+            RunFolder { path, folder, lock, trail: Trail::new()?, calls: 0, keep: None, new: None, last: None };
         opened.expect_there()?;
-        // What an earlier, killed run has renamed is flushed before it is reported.
-        opened.folder.sync_all()?;
+        // What an earlier, killed run has renamed is flushed before it is read.
+        let first = opened.trail.request()?;
+        opened.make(first, OsStr::new(""), &[])?;
         if let Some(above) = opened.path.parent() {
             sync_folder(above)?;
         }
         Ok(opened)
+    }
+
+    /// Has so many of the last segments stay from now on, of which these are there.
+    pub(crate) fn set_keep(&mut self, most: u64, there: Vec<OsString>) {
+        self.keep = Some((most, there.into()));
     }
 
     /// Returns the path without symbolic links.
@@ -102,39 +129,75 @@ impl RunFolder {
         &self.path
     }
 
-    /// How much is on the disk.
+    /// How much is on the disk, or was until it was dropped.
     pub(crate) fn counts(&self) -> Counts {
-        self.end.counts
+        let saved = self.trail.saved();
+        Counts { parts: saved.segments, calls: self.calls, moves: saved.moves, ..Counts::default() }
     }
 
-    /// Saves the next segment: it is on the disk then. After an error nothing more may be saved.
+    /// Saves the next segment, with so many moves and calls: it is on the disk then. After an error nothing more may be saved.
     pub(crate) fn save(&mut self, text: &[u8], more: Counts) -> Result<(), Error> {
-        let now = self.end.following(more, text);
-        if now.number() >= MOST {
-            return Err(io::Error::new(io::ErrorKind::FileTooLarge, "a run has at most 100,000,000 segments").into());
-        }
         self.expect_there()?;
-        let made = self.path.join(NEW);
-        self.drop_new()?;
-        if let Err(error) = write_file(&made, text) {
-            let _ = self.drop_new(); // the disk may be full of it
-            return Err(error.into());
+        let name = self.trail.hand(more, text)?;
+        self.work(&name, text)?;
+        self.calls = self.calls.wrapping_add(more.calls);
+        if let Some((_, there)) = &mut self.keep {
+            there.push_back(name);
         }
-        fs::rename(&made, self.path.join(now.name()))?;
-        self.folder.sync_all()?;
-        self.know_last(&now)?;
-        self.end = now.end();
         self.expect_there()
     }
 
-    fn know_last(&mut self, last: &Segment) -> Result<(), Error> {
-        let path = self.path.join(last.name());
-        let known = FileId::of(&fs::symlink_metadata(&path)?);
-        self.last = Some((path, known));
+    /// Drops the oldest segments, one after the other, until no more are there than stay. After an error nothing more is done.
+    pub(crate) fn drop_oldest(&mut self) -> Result<(), Error> {
+        while let Some(name) = self.keep.as_mut().and_then(next_dropped) {
+            self.expect_there()?; // no other folder is at the path
+            self.trail.drop_oldest()?;
+            self.work(&name, &[])?;
+        }
         Ok(())
     }
 
-    fn drop_new(&self) -> io::Result<()> {
+    /// Makes each call of the system that the library asks for, for the segment with this name; after an error it makes none.
+    fn work(&mut self, name: &OsStr, text: &[u8]) -> Result<(), Error> {
+        loop {
+            let request = self.trail.request()?;
+            if request == Request::Rest {
+                return Ok(());
+            }
+            if let Err(error) = self.make(request, name, text) {
+                self.trail.failed();
+                self.new = None;
+                let _ = self.remove_new(); // the disk may be full of it
+                return Err(error.into());
+            }
+            self.trail.done()?;
+        }
+    }
+
+    fn make(&mut self, request: Request, name: &OsStr, text: &[u8]) -> io::Result<()> {
+        let new = || self.path.join(NEW);
+        let file = self.new.as_mut().ok_or(io::ErrorKind::NotFound);
+        match request {
+            Request::Rest => {}
+            Request::RemoveNew => self.remove_new()?,
+            Request::CreateNew => {
+                self.new = Some(File::options().write(true).create_new(true).mode(0o600).open(new())?);
+            }
+            Request::WriteNew => file?.write_all(text)?,
+            Request::FlushNew => {
+                let file = file?;
+                file.sync_all()?;
+                self.last = Some((self.path.join(name), FileId::of(&file.metadata()?)));
+                self.new = None;
+            }
+            Request::RenameNew => fs::rename(new(), self.path.join(name))?,
+            Request::FlushFolder => self.folder.sync_all()?,
+            Request::RemoveOldest => fs::remove_file(self.path.join(name))?,
+        }
+        Ok(())
+    }
+
+    fn remove_new(&self) -> io::Result<()> {
         match fs::remove_file(self.path.join(NEW)) {
             Err(error) if error.kind() != io::ErrorKind::NotFound => Err(error),
             _ => Ok(()),
@@ -143,7 +206,7 @@ impl RunFolder {
 
     /// Checks that the path leads to this folder, with the lock and the last segment.
     fn expect_there(&self) -> Result<(), Error> {
-        let next = self.end.counts.parts;
+        let next = self.trail.saved().segments;
         let missing = |error: io::Error| match error.kind() {
             io::ErrorKind::NotFound => {
                 damaged(next, format!("{}: what the run has written was removed", self.path.display()))
@@ -174,19 +237,18 @@ impl Drop for RunFolder {
     }
 }
 
-fn write_file(path: &Path, text: &[u8]) -> io::Result<()> {
-    let mut file = File::options().write(true).create_new(true).mode(0o600).open(path)?;
-    file.write_all(text)?;
-    file.sync_all()
+/// Takes away the name of the oldest segment, if more are there than stay.
+fn next_dropped((most, there): &mut (u64, VecDeque<OsString>)) -> Option<OsString> {
+    if there.len() as u64 > *most { there.pop_front() } else { None }
 }
 
 /// Flushes the names in a folder.
-pub(crate) fn sync_folder(folder: &Path) -> io::Result<()> {
+fn sync_folder(folder: &Path) -> io::Result<()> {
     File::open(folder)?.sync_all()
 }
 
 /// Returns where a path leads to, whether something is there or not.
-pub(crate) fn real(path: &Path) -> io::Result<PathBuf> {
+fn real(path: &Path) -> io::Result<PathBuf> {
     if path.exists() {
         return path.canonicalize();
     }
@@ -203,16 +265,6 @@ fn unlinked(path: &Path) -> io::Result<PathBuf> {
     real(path)
 }
 
-/// Opens a regular file to read, which waits for no writer of a pipe; it follows a link only with these flags 0.
-pub(crate) fn open_regular(path: &Path, flags: i32) -> io::Result<File> {
-    let file = File::options().read(true).custom_flags(NO_WAIT | flags).open(path)?;
-    if file.metadata()?.is_file() {
-        Ok(file)
-    } else {
-        Err(io::Error::new(io::ErrorKind::InvalidInput, "no regular file"))
-    }
-}
-
 /// Expects a folder without anything but what a run leaves that was killed while it was created.
 fn expect_empty(path: &Path) -> Result<(), Error> {
     let exists = |why: &str| Err(at(path, &io::Error::new(io::ErrorKind::AlreadyExists, why)));
@@ -222,7 +274,7 @@ fn expect_empty(path: &Path) -> Result<(), Error> {
     let mut is_empty = true;
     for entry in fs::read_dir(path)? {
         let name = entry?.file_name();
-        if name.to_str().is_some_and(is_name) {
+        if is_name(name.as_bytes()) {
             return exists("there is a run, which Run::resume continues");
         }
         is_empty = is_empty && (name == NEW || name == LOCK);

@@ -34,10 +34,16 @@ pub(crate) fn save_parts(core: &Core, folder: RunFolder) {
     // It is closed before the run learns that this thread has ended.
     let mut folder = folder;
     while let Some(part) = core.due() {
-        match save(core, &part, &mut folder) {
-            Ok(true) => core.is_saved(folder.counts()),
-            Ok(false) => {}
-            Err(error) => return core.end(cause(error)),
+        let result = match save(core, &part, &mut folder) {
+            Ok(true) => {
+                core.is_saved(folder.counts());
+                drop(part); // its memory is released before old segments are dropped
+                folder.drop_oldest()
+            }
+            result => result.map(drop),
+        };
+        if let Err(error) = result {
+            return core.end(cause(error));
         }
     }
 }
@@ -48,7 +54,7 @@ fn save(core: &Core, part: &Part, folder: &mut RunFolder) -> Result<bool, Error>
     let calls = events(journal.as_bytes())?;
     let Some(is_last) = core.open_next_at_rest(part)? else { return Ok(false) };
     if !is_last || calls > 0 {
-        folder.save(journal.as_bytes(), Counts { parts: 1, calls, moves: part.storage.moves().into() })?;
+        folder.save(journal.as_bytes(), Counts { calls, moves: part.storage.moves().into(), ..Counts::default() })?;
     }
     Ok(true)
 }

@@ -107,8 +107,8 @@ fn left(text: &[u8], file: File, draw: &mut Draw) -> Vec<u8> {
     left
 }
 
-/// A state that these calls may leave. The texts are those of the folder in which the calls were made.
-pub fn crashed(calls: &[&str], folder: &Path, notes_folder: bool, draw: &mut Draw) -> AfterCrash {
+/// A state that these calls may leave. The texts are those of the folder in which the calls were made, or of the copies.
+pub fn crashed(calls: &[&str], folders: [&Path; 2], notes_folder: bool, draw: &mut Draw) -> AfterCrash {
     let mut disk = Disk::default();
     calls.iter().for_each(|it| disk.note(it, notes_folder));
     let answered = disk.answered;
@@ -121,7 +121,7 @@ pub fn crashed(calls: &[&str], folder: &Path, notes_folder: bool, draw: &mut Dra
     let files = disk.names.iter().map(|(name, number)| {
         let file = disk.files[*number];
         // What has no name of a segment is no part of the run, whatever it has.
-        let text = fs::read(folder.join(name)).unwrap_or_default();
+        let text = folders.iter().find_map(|it| fs::read(it.join(name)).ok()).unwrap_or_default();
         let text = if text.len() < file.written { vec![b'x'; file.written] } else { text };
         (name.clone(), left(&text, file, draw))
     });

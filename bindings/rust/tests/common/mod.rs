@@ -38,6 +38,13 @@ impl Room {
         self.segments().iter().flat_map(|it| fs::read(it).unwrap()).collect()
     }
 
+    /// The state after the run.
+    pub fn state(&self) -> Vec<(Location, Value)> {
+        let mut auditor = Auditor::new();
+        auditor.write_all(&self.bytes()).unwrap();
+        auditor.state().unwrap().unwrap()
+    }
+
     /// The result of an audit of the folder, and the state after the run.
     pub fn audited(&self) -> (Counts, Vec<(Location, Value)>) {
         let mut auditor = Auditor::new();
