@@ -1,9 +1,7 @@
 """A run that grows, for ./view --follow: its trace as far as an audit accepts it, and the page of it on this computer alone."""
-import hashlib
 import http.server
 import json
 import os
-import re
 import stat
 import subprocess
 import threading
@@ -14,8 +12,6 @@ from typing import Any
 # The most that the program reads of one journal, and that a storage has of moves.
 MOST_JOURNAL, MOST_CAPACITY = 2**24, 2**20
 SUFFIX = ".journal"
-NUMBER, DIGEST = "(0|[1-9][0-9]{0,19})", "([0-9a-f]{64})"
-NAME = re.compile(rf"([0-9]{{8}})-{NUMBER}-{NUMBER}-{NUMBER}-{DIGEST}-{DIGEST}\.journal")
 # How long a connection may be silent, in s, and how many may be open at once.
 SECONDS, CONNECTIONS = 10, 32
 
@@ -72,12 +68,15 @@ def later(line: dict[str, Any], events: int, moves: int) -> dict[str, Any]:
 class Growing:
     """The trace of what a run has so far, and where that ends.
 
-    Of a folder it has the segments that an audit accepts: their names and digests are those of one chain, each is legal, and
-    each opens with the state at the end of the one before it. So all are one run, whose numbers of events and moves go on.
+    Of a folder it has the segments that `asm_driver audit` accepts, so all are one run. Its events and moves count from the first
+    segment that is left.
     """
 
     def __init__(self, run: Path, program: Path, room: Path) -> None:
         self._run, self._program, self._room = run, program, room
+        # The last segment that is shown: its copy, alone in a folder.
+        self._last: Path | None = None
+        (room / "last").mkdir()
         self._lock = threading.Lock()
         # What changes with the text.
         self.version, self._stamp, self._where = 0, (0, 0), ""
@@ -85,7 +84,6 @@ class Growing:
 
     def _begin(self) -> None:
         self._lines, self._header = list[bytes](), dict[str, Any]()
-        self._segments, self._digest, self._before = 0, "0" * 64, b""
         self._events = self._moves = 0
         # After how many moves a segment was full, though the run continues.
         self._ends: list[int] = []
@@ -97,13 +95,13 @@ class Growing:
             Refused: nothing can be shown yet.
         """
         with self._lock:
-            was = self._segments, self._stamp, self._where
+            was = self._last, self._stamp, self._where
             self._where = ""
             try:
                 self._take_folder() if self._run.is_dir() else self._take_file()
             except (Refused, OSError) as fault:
                 self._where = plain(str(fault))
-            self.version += was != (self._segments, self._stamp, self._where)
+            self.version += was != (self._last, self._stamp, self._where)
             if not self._header:
                 raise Refused(self._where or f"{plain(str(self._run))} has no segment yet")
             header = line_of({**self._header, "events": self._events})
@@ -112,49 +110,44 @@ class Growing:
     def _take_folder(self) -> None:
         folder = os.open(self._run, os.O_RDONLY | os.O_DIRECTORY | os.O_CLOEXEC)
         try:
-            for name in sorted(it for it in os.listdir(folder) if it.endswith(SUFFIX))[self._segments :]:
-                try:
+            for name in sorted(it for it in os.listdir(folder) if it.endswith(SUFFIX)):
+                if self._last is None or name > self._last.name:
                     self._take_segment(folder, name)
-                except (Refused, OSError) as fault:
-                    raise Refused(f"segment {self._segments} isn't shown, and none after it: {fault}") from fault
         finally:
             os.close(folder)
 
     def _take_segment(self, folder: int, name: str) -> None:
-        found = NAME.fullmatch(name)
-        number, first, moves, events = map(int, found.groups()[:4]) if found else (0, 0, 0, 0)
-        if not found or max(first + moves, events) >= 2**64 or number != self._segments or number == 0 and moves + events > 0:
-            raise Refused(f"{name} is no name of it")
-        if (first, found[5]) != (self._moves, self._digest):
-            raise Refused(f"{name} has another FIRST or PREVIOUS than the segment before it leaves")
-        text = read_journal(Path(name), folder)
-        chain = f"{self._digest} {number} {self._moves} {moves} {events} {len(text)}\n".encode()
-        if hashlib.sha256(chain + text).hexdigest() != found[6]:
-            raise Refused("its text isn't the one that was saved")
-        # The one before it is judged with it, so that it opens with the state there.
-        self._asked("audit", self._before + text)
-        lines = self._trace(text)
-        if (len(lines) - 1, sum("updates" in it for it in lines)) != (events, moves):
-            raise Refused("its text has other numbers than its name")
-        self._add(lines)
-        self._segments, self._digest, self._before = number + 1, found[6], text
+        copy = self._room / "last" / name
+        try:
+            copy.write_bytes(read_journal(Path(name), folder))
+            # The folder has the segment before it too, so that it is judged as its successor.
+            self._asked("audit", copy.parent)
+            self._add(self._trace(copy))
+        except (Refused, OSError) as fault:
+            copy.unlink(missing_ok=True)
+            number = name.partition("-")[0]
+            segment = f"segment {int(number)}" if number.isdecimal() else name
+            raise Refused(f"{segment} isn't shown, and none after it: {fault}") from fault
+        if self._last is not None:
+            self._last.unlink()
+        self._last = copy
 
     def _take_file(self) -> None:
         found = os.stat(self._run)
         stamp = found.st_mtime_ns, found.st_size
         if stamp != self._stamp:
-            lines = self._trace(read_journal(self._run))
+            copy = self._room / "journal"
+            copy.write_bytes(read_journal(self._run))
+            lines = self._trace(copy)
             self._begin()
             self._add(lines)
             self._stamp = stamp
 
-    def _trace(self, text: bytes) -> list[dict[str, Any]]:
-        return [json.loads(it) for it in self._asked("trace", text).splitlines()]
+    def _trace(self, copy: Path) -> list[dict[str, Any]]:
+        return [json.loads(it) for it in self._asked("trace", copy).splitlines()]
 
-    def _asked(self, command: str, text: bytes) -> bytes:
-        """Return what the program writes of a text, which it reads from a file of our own."""
-        copy = self._room / "journal"
-        copy.write_bytes(text)
+    def _asked(self, command: str, copy: Path) -> bytes:
+        """Return what the program writes of our own copy of a journal or of segments."""
         ran = subprocess.run([self._program, command, copy], stdin=subprocess.DEVNULL, capture_output=True, check=False)
         if ran.returncode:
             raise Refused(f"asm_driver {command} refuses it: {last_line(ran.stdout) or last_line(ran.stderr)}")

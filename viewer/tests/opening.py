@@ -6,6 +6,7 @@ It comes by a file, by a drop, or by ./view.
 import hashlib
 import json
 import os
+import re
 import shutil
 import socket
 import subprocess
@@ -199,6 +200,8 @@ class Follow:
 
     def __init__(self, room: Path, run: Path) -> None:
         self.view = View(room)
+        # The model audits no folders.
+        self.view.write("asm_driver", f'exec "{ROOT}/asm_driver" "$@"')
         self.server = subprocess.Popen([self.view.root / "view", "--follow", run], stdout=subprocess.PIPE, stderr=subprocess.PIPE,
                                        env=os.environ | {"PATH": f"{self.view.opened}:{os.environ['PATH']}", "TMPDIR": str(room)})
         assert self.server.stdout
@@ -259,7 +262,7 @@ def try_follow(tries: Tries, browser: Browser) -> None:
         browser.until("return shown.run.where !== ''", 30)
         browser.frame()
         tries.same("a foreign file is no part of it, and the page says where it ends", (browser.texts("#facts .legal"), browser.text("warning"), browser.texts("#facts .fact")[1]), (
-            ["legal as far as it is shown, checked by asm_driver"], "The run isn't shown to its end: segment 3 isn't shown, and none after it: zzz.journal is no name of it", "5 events"))
+            ["legal as far as it is shown, checked by asm_driver"], "The run isn't shown to its end: zzz.journal isn't shown, and none after it: asm_driver audit refuses it: segment 3 misnamed", "5 events"))
 
 
 def wait_for(is_so: Callable[[], bool]) -> None:
@@ -307,15 +310,22 @@ def try_refused_segments(tries: Tries, browser: Browser) -> None:
         os.mkfifo(file)
 
     for number, (make, why) in enumerate({
-        apart: "apart", wrong_answer: "illegal", altered: "isn't the one that was saved", missing: "is no name of it",
-        renamed: "isn't the one that was saved", misplaced: "another FIRST", unchained: "another FIRST or PREVIOUS", linked: "symbolic link", piped: "no regular file",
+        apart: "apart", wrong_answer: "illegal", altered: "segment 2 damaged", missing: "segment 2 missing", renamed: "segment 2 damaged",
+        misplaced: "segment 2 misplaced", unchained: "segment 2 misplaced", linked: "symbolic link", piped: "no regular file",
     }.items()):
         chain, second = growing_run(tries.room / f"refused{number}.run")
         make(chain, second)
         with Follow(tries.room / f"refused{number}", chain.folder) as following:
             first, lines = following.trace()
-            tries.claim(f"a segment that is {make.__name__} isn't shown: {first['where']}", why in first["where"] and first["where"].startswith("segment 2 isn't shown"), first)
+            tries.claim(f"a segment that is {make.__name__} isn't shown: {first['where']}", why in first["where"] and re.match("segment [23] isn't shown, and none after it: ", first["where"]), first)
             tries.same("those before it are", (len(lines), first["ends"]), (4, [1, 1]))
+    chain, second = growing_run(tries.room / "dropped.run")
+    min(chain.folder.iterdir()).unlink()
+    with Follow(tries.room / "dropped", chain.folder) as following:
+        tries.same("a run whose first segment was dropped is shown", (len(following.trace()[1]), following.trace()[0]), (4, {"ends": [1], "where": ""}))
+        min(chain.folder.iterdir()).unlink()
+        chain.add(second)
+        tries.same("it goes on when a shown one is dropped", (len(following.trace()[1]), following.trace()[0]["where"]), (6, ""))
     journal = tries.file("again.journal", b"half of it")
     with Follow(tries.room / "again", journal) as following:
         tries.same("a file that can't be read yet is tried again", status(f"{following.address}trace"), 503)
