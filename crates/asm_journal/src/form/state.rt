@@ -72,7 +72,9 @@ pub(crate) fn state_from(
             return Ok(None);
         }
         note_undef(alloc, &mut undefined, &at, &value)?;
-        state.set(at, value)?;
+        // Copies of its location then take no memory.
+        let shared = at.share(alloc)?;
+        state.set(shared, value)?;
     }
     Ok(Some(state))
 }

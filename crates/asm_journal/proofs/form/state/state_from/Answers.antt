@@ -30,7 +30,8 @@ loop-at-preserved c =
     let popped = ap pairs_seen c.in-Some.ensures.items ∙ map-append _ c.pop.new.self.items _ in
     let whole = one_back _ p _ l.invariant.done _ l.invariant.whole popped in
     let new = sym c.is_read.ensures ∙ c.if-is_read.false in
-    let written : c.set.new.self ≡ write l.state p.0 p.1 = c.in_ok-set.ensures.ok in
+    let written : c.set.new.self ≡ write l.state p.0 p.1 =
+    c.in_ok-set.ensures.ok ∙ ap (λ (at : Place). write l.state at p.1) c.in_ok-shared.ensures in
     record {
       done = p ∷ l.invariant.done;
       whole = whole;
