@@ -20,7 +20,7 @@ use Rattle.asm_storage.specs.declared.entry.Entry.{Entry}
 use Rattle.asm_storage.specs.Machine as machine
 use Rattle.asm_storage.specs.Machine.{Machine, firing_reply, fire_reply, fired_or_full, reply_to}
 use Rattle.asm_storage.specs.Agents.{moves_seen}
-use Rattle.asm_storage.specs.Part.{IsReplyAt, IsJudged, agent_of, HasPolledRow, HasWon, HasLostAttempt, IsPartOf, IsTurn, offers_in, misses_in, IsOffering}
+use Rattle.asm_storage.specs.Part.{IsReplyAt, IsJudged, agent_of, HasPolledRow, HasWon, HasLostAttempt, IsPartOf, IsTurn, offers_in, misses_in, IsAsked, IsEntryOf}
 use Rattle.asm_update.specs.Aggregator.{Meaning}
 use Rattle.asm_storage.specs.History.{IsCoherentAt, fired_move}
 use Rattle.asm_storage.specs.Storage.{AgentAt, StorageView, machine_of, FollowsOn, last_poll, has_polled, has_seen, with_fired, with_receipt, IsReplyOf, Missed}
@@ -31,7 +31,7 @@ use Rattle.asm_storage.specs.declared.error.FireError.{FireError}
 use Rattle.asm_storage.specs.declared.error.FireError.TheVariants as fire_error
 use Rattle.asm_storage.specs.Limits.{offers_limit}
 use mathlib.Core.List.{IsPrefix}
-use Rattle.asm_storage.specs.declared.part.offering.Offering.{Offering}
+use Rattle.asm_storage.specs.declared.part.offering.Asked.{Asked}
 use Rattle.asm_storage.specs.declared.receipt.Receipt.{Receipt}
 use Rattle.asm_row.proofs.Prefixes.{IsPrefix-trans}
 use Rattle.asm_storage.proofs.Lists.{length-prefix}
@@ -240,9 +240,42 @@ pub polled_id : {A : Type 0} (meaning : A → Meaning) (s : StorageView A) (old 
 polled_id {A} meaning s old new polls = ap (λ (a : AgentAt A). a.account.id) polls.agent
 
 -- what is offered by an agent is so by one of the same number
-pub same_offering : (i k : ℕ) (reads : List Named) (M : Move) (o : Option Offering) → i ≡ k →
-    IfSome o (IsOffering i reads M) → IfSome o (IsOffering k reads M)
-same_offering i k reads M o e is = subst (λ n. IfSome o (IsOffering n reads M)) e is
+pub same_entry : (i k : ℕ) (a : Asked) → i ≡ k → IfSome a.entry (λ b. IsEntryOf i a.instrs b.value) →
+    IfSome a.entry (λ b. IsEntryOf k a.instrs b.value)
+same_entry i k a e is = subst (λ n. IfSome a.entry (λ b. IsEntryOf n a.instrs b.value)) e is
+
+pub same_asked : (i k : ℕ) (reads : List Named) (M : Move) (a : Asked) (r : Result (Option Reply) AllocError) → i ≡ k →
+    IfOk r (λ o. IfNone o (IsAsked i reads M a)) → IfOk r (λ o. IfNone o (IsAsked k reads M a))
+same_asked i k reads M a r e is = subst (λ n. IfOk r (λ o. IfNone o (IsAsked n reads M a))) e is
+
+-- what is true of what is asked is true of the move with these reads
+pub of_asked : (P : List Named → Move → Type 0) (i : ℕ) (reads : List Named) (M : Move) (a : Asked) →
+    IsAsked i reads M a → P a.reads a.instrs → P reads M
+of_asked P i reads M a is holds = subst (λ rs. P rs M) is.reads_is (subst (P a.reads) is.instrs_is holds)
+
+-- a turn that lost its attempt leaves the fire as it was asked for
+pub still_asked : (i k : ℕ) (reads : List Named) (M : Move) (a b : Asked) → i ≡ k → IsAsked k reads M a →
+    IsAsked i a.reads a.instrs b → IsAsked k reads M b
+still_asked i k reads M a b e was is = record {
+  reads_is = is.reads_is ∙ was.reads_is;
+  instrs_is = is.instrs_is ∙ was.instrs_is;
+  entry = subst (λ n. IfSome b.entry (λ x. IsEntryOf n M x.value)) e
+      (subst (λ m. IfSome b.entry (λ x. IsEntryOf i m x.value)) was.instrs_is is.entry);
+}
+
+-- its entry is the agent's
+pub asked_entry : (i k : ℕ) (reads : List Named) (M : Move) (a : Asked) → k ≡ i → IsAsked k reads M a →
+    IfSome a.entry (λ b. IsEntryOf i a.instrs b.value)
+asked_entry i k reads M a e is = subst (λ n. IfSome a.entry (λ b. IsEntryOf n a.instrs b.value)) e
+    (subst (λ m. IfSome a.entry (λ b. IsEntryOf k m b.value)) (sym is.instrs_is) is.entry)
+
+-- a fire that nothing was made for yet
+pub asked_first : (i : ℕ) (a : Asked) → a.entry ≡ None → IsAsked i a.reads a.instrs a
+asked_first i a none = record {
+  reads_is = refl;
+  instrs_is = refl;
+  entry = subst (λ o. IfSome o (λ b. IsEntryOf i a.instrs b.value)) (sym none) tt;
+}
 
 module _ {A : Type 0} (meaning : A → Meaning) (s : StorageView A) (old mid new : AgentPart) (reads : List Named) (M : Move)
     (polls : HasPolledRow meaning s old mid) where

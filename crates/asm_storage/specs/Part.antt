@@ -1,6 +1,6 @@
 -- The part of an agent that is no borrow: what is true of it beside its storage, what it attempts to append, and what
 -- its calls do.
-use Rattle.std.specs.Prelude.{◌≡◌, ℕ, List, ◌+◌, ◌-◌, ◌^◌, ◌<◌, ◌≤◌, length, take, Option, Some, None, Result, Ok, Err, Bool, true, false, nat_le, [], IsOk, IsTrue}
+use Rattle.std.specs.Prelude.{◌≡◌, ℕ, List, ◌+◌, ◌-◌, ◌^◌, ◌<◌, ◌≤◌, length, take, Option, Some, None, Result, Ok, Err, Bool, true, false, nat_le, [], IfSome, IsOk, IsTrue}
 use Rattle.std.specs.List.{list_all}
 use Rattle.asm_row.specs.Seat.{SeatView}
 use Rattle.asm_element.specs.Place.{Place}
@@ -8,7 +8,7 @@ use Rattle.asm_element.specs.declared.value.Value.{Value}
 use Rattle.asm_update.specs.Move.{Move, all_regular, has_two}
 use Rattle.asm_state.specs.declared.named.Named.{Named}
 use Rattle.asm_storage.specs.declared.call.Call.TheVariants as call
-use Rattle.asm_storage.specs.declared.part.offering.Offering.{Offering}
+use Rattle.asm_storage.specs.declared.part.offering.Asked.{Asked}
 use Rattle.std.specs.declared.alloc.AllocError.{AllocError}
 use mathlib.Core.List.{IsPrefix}
 use Rattle.asm_update.specs.Aggregator.{Meaning}
@@ -31,16 +31,16 @@ use Rattle.asm_storage.specs.Calls.{receipt_at, judged_on, IsReplied}
 use Rattle.asm_storage.specs.Scans.{with_found, DependsOn, IsFound, IsNamedOver}
 use Rattle.asm_storage.specs.Storage.{AgentAt, StorageView, machine_of, has_seen, has_polled, with_fired, with_receipt, last_poll}
 
--- the agent's entry of this move, and the call to fire it with these declared reads
-pub record IsOffering (agent : ℕ) (reads : List Named) (M : Move) (o : Offering) : Type 0 where
-  pub mine : o.entry.value.agent ≡ agent
-  pub instrs : o.entry.value.instrs ≡ M
-  pub call_is : o.call ≡ call.Fire reads M
+-- the agent's entry of this move
+pub record IsEntryOf (agent : ℕ) (M : Move) (e : Entry) : Type 0 where
+  pub mine : e.agent ≡ agent
+  pub instrs : e.instrs ≡ M
 
--- the same entry, and the same call
-pub record IsSameOffering (old new : Offering) : Type 0 where
-  pub entry_is : new.entry.value ≡ old.entry.value
-  pub call_is : new.call ≡ old.call
+-- the fire of this move with these declared reads, and the entry that it may have is the agent's
+pub record IsAsked (agent : ℕ) (reads : List Named) (M : Move) (a : Asked) : Type 0 where
+  pub reads_is : a.reads ≡ reads
+  pub instrs_is : a.instrs ≡ M
+  pub entry : IfSome a.entry (λ b. IsEntryOf agent M b.value)
 
 -- the agent that the part is of
 abbrev pub account_of : AgentPart → AgentView

@@ -15,9 +15,9 @@ use crate::entry::Entry;
 use crate::error::{FireError, ReadError};
 use crate::limits::READS_LIMIT;
 use crate::part::AgentPart;
+use crate::part::offering::Asked;
 use crate::reading::{NamedReading, Reading};
 use crate::receipt::Receipt;
-use crate::shared_lists::copied_named;
 use crate::storage::Storage;
 use asm_element::{Items, Location};
 use asm_state::{Named, Scanned, State};
@@ -308,10 +308,8 @@ impl<'s, A: Aggregator + Sync + Drop> Agent<'s, A> {
         if reads.len() > READS_LIMIT || scans.len() > READS_LIMIT - reads.len() {
             return Err(FireError::ManyReads);
         }
-        match copied_named(alloc, reads) {
-            Ok(named) => self
-                .part
-                .fire(alloc, storage, &named, scans, instrs, between),
+        match Asked::copying(alloc, reads, instrs) {
+            Ok(asked) => self.part.fire(alloc, storage, asked, scans, between),
             Err(_) => {
                 self.part.poll(storage);
                 Err(FireError::Memory)

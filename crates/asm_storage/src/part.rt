@@ -7,9 +7,10 @@ ghost use Rattle.asm_storage.specs.Taken.{HasTaken};
 
 mod fire;
 mod judging;
-mod offering;
+pub(crate) mod offering;
 mod read;
 mod scanning;
+mod turns;
 
 use crate::agent::Mark;
 use crate::entry::Entry;

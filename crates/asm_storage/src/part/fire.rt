@@ -1,4 +1,4 @@
-ghost use Rattle.std.specs.Prelude.{◌≡◌, ◌+◌, ◌<◌, ◌≤◌, ℕ, nat_le, length, take, IfOk, OnOk, OnErr, Some, None, Ok, IsSome, true, false};
+ghost use Rattle.std.specs.Prelude.{◌≡◌, ◌+◌, ◌<◌, ◌≤◌, nat_le, length, take, IfOk, OnOk, OnErr, Some, None, Ok, IsSome, true, false};
 ghost use Rattle.std.specs.Prelude.{IfSome, IfNone};
 ghost use Rattle.std.specs.Bool.{OnTrue};
 ghost use Rattle.std.specs.List.{list_all};
@@ -9,19 +9,17 @@ ghost use Rattle.asm_storage.specs.declared.call.Reply.TheVariants as reply;
 ghost use Rattle.asm_storage.specs.Agents.{moves_seen, next_stood};
 ghost use Rattle.asm_storage.specs.History.{fired_move};
 ghost use Rattle.asm_storage.specs.Storage.{machine_of, with_fired, with_receipt, last_poll, IsReplyOf, Missed};
-ghost use Rattle.asm_storage.specs.Limits.{reads_limit};
 ghost use Rattle.asm_storage.specs.Machine.{reply_to};
-ghost use Rattle.asm_storage.specs.Part.{IsOffering, IsSameOffering, agent_of, offers_in, misses_in};
-ghost use Rattle.asm_storage.specs.Calls.{receipt_at, HasOffered, IsFireOver, MadeOffers, Ran, IsVersionAfter};
+ghost use Rattle.asm_storage.specs.Part.{IsAsked, IsEntryOf, agent_of, offers_in, misses_in};
+ghost use Rattle.asm_storage.specs.Calls.{receipt_at, HasOffered, Ran, IsVersionAfter};
 ghost use Rattle.asm_storage.specs.Calls.{is_plain, is_plain_over};
 ghost use Rattle.asm_storage.specs.Part.{IsSure, IsJudgedOver, HasWon, IsJudged, HasLostAttempt, IsPartOf, IsTurnOver, HasPolledRow};
 
 use crate::call::{Answer, Call, Reply, fire_call};
-use crate::error::FireError;
-use crate::limits::{OFFERS_LIMIT, READS_LIMIT};
+use crate::entry::Entry;
 use crate::part::AgentPart;
 use crate::part::judging::{are_agreed, is_plain, judged, judged_plain};
-use crate::part::offering::Offering;
+use crate::part::offering::Asked;
 use crate::part::scanning::is_plain_over;
 use crate::receipt::Receipt;
 use crate::storage::Storage;
@@ -206,19 +204,22 @@ impl AgentPart {
     }
 
     // Attempts to append a move that was judged to fire, and records the receipt if it won: the room for that is made
-    // before. If it lost, another entry was seen, and the attempt's parts are returned.
+    // before. If it lost, another entry was seen, and the attempt's own is returned.
     fn offer<A: Aggregator + Sync + Drop, F: FnMut()>(
         &mut self,
+        alloc: Global,
         storage: &Storage<A>,
-        offering: Offering,
-        answer: Answer,
+        asked: &mut Asked,
+        entry: Box<Entry>,
+        number: u32,
         between: &mut F,
-    ) -> Result<Option<Offering>, AllocError>
+    ) -> Result<Option<Box<Entry>>, AllocError>
         requires part { IsPartOf A.meaning storage.now self.old }
         requires room { length self.old.progress.seen < length storage.now.row }
-        requires reply { IsReplyOf A.meaning (agent_of storage.now self.old) offering.call answer }
-        requires fired { fired_move offering.call answer ≡ Some offering.entry.value.instrs }
-        requires mine { offering.entry.value.agent ≡ self.old.id }
+        requires reply { IsReplyOf A.meaning (agent_of storage.now self.old)
+            (call.Fire asked.old.reads asked.old.instrs) (answer.Fire (reply.Fired number)) }
+        requires instrs { entry.value.instrs ≡ asked.old.instrs }
+        requires mine { entry.value.agent ≡ self.old.id }
         requires callable { F.IsAlwaysCallable between.old }
 
         // The agent stays itself, and unchanged where memory was refused.
@@ -229,9 +230,11 @@ impl AgentPart {
         // A won attempt has its receipt; a lost one is returned.
         ensures won { IfOk result (λ o. IfNone o (
             agent_of storage.now self.new ≡ with_fired (agent_of storage.now self.old)
-            (receipt_at (length self.old.progress.seen) offering.call answer) offering.entry.value.instrs)) }
+            (receipt_at (length self.old.progress.seen) (call.Fire asked.old.reads asked.old.instrs)
+            (answer.Fire (reply.Fired number))) entry.value.instrs)) }
         ensures lost { IfOk result (λ o. IfSome o (λ back. HasLostAttempt storage.now self.old self.new)) }
-        ensures back { IfOk result (λ o. IfSome o (IsSameOffering offering)) }
+        ensures back { IfOk result (λ o. IfSome o (λ back. back.value ≡ entry.value)) }
+        ensures kept { IfOk result (λ o. IfSome o (λ back. asked.new ≡ asked.old)) }
 
         // The closure was called once, unless memory was refused.
         ensures callable { F.IsAlwaysCallable between.new }
@@ -241,37 +244,35 @@ impl AgentPart {
         self.receipts.reserve(1)?;
         let stood = self.progress.seen_len();
         between();
-        let Offering { entry, call } = offering;
         match self.progress.try_offer(storage.row(), entry) {
             Ok(()) => {
                 let receipt = Receipt {
-                    call,
-                    answer,
+                    call: asked.take_call(alloc),
+                    answer: Answer::Fire(Reply::Fired(number)),
                     stood,
                 };
                 self.receipts.push(receipt).unwrap();
                 Ok(None)
             }
-            Err(entry) => Ok(Some(Offering { entry, call })),
+            Err(entry) => Ok(Some(entry)),
         }
     }
 
-    // Attempts to append the move, which was judged to fire; None if the attempt lost. Its parts are those that an
-    // earlier turn left, or are made here.
+    // Attempts to append the move, which was judged to fire; None if the attempt lost. Its entry is the one that an
+    // earlier turn left, or is made here.
     fn attempt<A: Aggregator + Sync + Drop, F: FnMut()>(
         &mut self,
         alloc: Global,
         storage: &Storage<A>,
-        reads: &Items<Named>,
-        instrs: &Instructions,
-        pending: &mut Option<Offering>,
+        asked: &mut Asked,
         between: &mut F,
     ) -> Result<Option<Reply>, AllocError>
         requires part { IsPartOf A.meaning storage.now self.old }
         requires room { length self.old.progress.seen < length storage.now.row }
-        requires reply { IsReplyOf A.meaning (agent_of storage.now self.old) (call.Fire reads.now instrs.now)
+        requires reply { IsReplyOf A.meaning (agent_of storage.now self.old)
+            (call.Fire asked.old.reads asked.old.instrs)
             (answer.Fire (reply.Fired (length self.old.progress.seen + 1))) }
-        requires pending { IfSome pending.old (IsOffering self.old.id reads.now instrs.now) }
+        requires pending { IfSome asked.old.entry (λ b. IsEntryOf self.old.id asked.old.instrs b.value) }
         requires callable { F.IsAlwaysCallable between.old }
 
         // The agent stays itself, and unchanged where memory was refused.
@@ -279,11 +280,13 @@ impl AgentPart {
         ensures id { self.new.id ≡ self.old.id }
         ensures err { OnErr result (agent_of storage.now self.new ≡ agent_of storage.now self.old) }
 
-        // The attempt won or lost, and the parts of a lost one are retained.
-        ensures won { IfOk result (λ o. IfSome o (HasWon storage.now self.old self.new reads.now instrs.now)) }
+        // The attempt won or lost, and the fire is asked for with the entry of a lost one.
+        ensures won { IfOk result (λ o. IfSome o (
+            HasWon storage.now self.old self.new asked.old.reads asked.old.instrs)) }
         ensures lost { IfOk result (λ o. IfNone o (HasLostAttempt storage.now self.old self.new)) }
-        ensures pending { IfSome pending.new (IsOffering self.old.id reads.now instrs.now) }
-        ensures kept { result ≡ Ok None → IsSome pending.new }
+        ensures pending { IfOk result (λ o. IfNone o (
+            IsAsked self.old.id asked.old.reads asked.old.instrs asked.new)) }
+        ensures kept { result ≡ Ok None → IsSome asked.new.entry }
 
         // The closure was called once, unless memory was refused.
         ensures callable { F.IsAlwaysCallable between.new }
@@ -293,30 +296,27 @@ impl AgentPart {
         // Proof: the capacity is a `u32`: the sum below needs it.
         let _capacity = storage.row().capacity();
         let number = self.progress.seen_len() + 1;
-        let offering = Offering::take(pending, alloc, self.id, reads, instrs)?;
-        let answer = Answer::Fire(Reply::Fired(number));
-        match self.offer(storage, offering, answer, between)? {
+        let entry = asked.take_entry(alloc, self.id)?;
+        match self.offer(alloc, storage, asked, entry, number, between)? {
             None => Ok(Some(Reply::Fired(number))),
             Some(back) => {
-                *pending = Some(back);
+                asked.entry = Some(back);
                 Ok(None)
             }
         }
     }
 
-    // One turn of a fire: the reply, or None if an attempt was lost.
-    fn turn<A: Aggregator + Sync + Drop, F: FnMut()>(
+    /// Take one turn of a fire: return the reply, or None if an attempt was lost.
+    pub(crate) fn turn<A: Aggregator + Sync + Drop, F: FnMut()>(
         &mut self,
         alloc: Global,
         storage: &Storage<A>,
-        reads: &Items<Named>,
+        asked: &mut Asked,
         scans: &[Scanned],
-        instrs: &Instructions,
-        pending: &mut Option<Offering>,
         between: &mut F,
     ) -> Result<Option<Reply>, AllocError>
         requires part { IsPartOf A.meaning storage.now self.old }
-        requires pending { IfSome pending.old (IsOffering self.old.id reads.now instrs.now) }
+        requires pending { IfSome asked.old.entry (λ b. IsEntryOf self.old.id asked.old.instrs b.value) }
         requires callable { F.IsAlwaysCallable between.old }
 
         // The agent stays itself, what it has seen stays seen, and where memory was refused it has looked on alone.
@@ -325,15 +325,16 @@ impl AgentPart {
         ensures seen { IsPrefix self.old.progress.seen self.new.progress.seen }
         ensures err { OnErr result (HasPolledRow A.meaning storage.now self.old self.new) }
 
-        // It was answered, or an attempt was lost, and its parts are retained.
+        // It was answered, or an attempt was lost, and the fire is still asked for.
         ensures turn { IfOk result (
-            IsTurnOver A.meaning storage.now self.old self.new reads.now scans.now instrs.now) }
+            IsTurnOver A.meaning storage.now self.old self.new asked.old.reads scans.now asked.old.instrs) }
         ensures stands { IfOk result (λ o. IfSome o (IsVersionAfter (agent_of storage.now self.old)
-            (agent_of storage.now self.new) (is_plain_over reads.now scans.now instrs.now))) }
-        ensures unmoved { is_plain_over reads.now scans.now instrs.now ≡ true →
+            (agent_of storage.now self.new) (is_plain_over asked.old.reads scans.now asked.old.instrs))) }
+        ensures unmoved { is_plain_over asked.old.reads scans.now asked.old.instrs ≡ true →
             self.new.state.number ≡ self.old.state.number }
         ensures onward { self.old.state.number ≤ self.new.state.number }
-        ensures pending { IfSome pending.new (IsOffering self.old.id reads.now instrs.now) }
+        ensures pending { IfOk result (λ o. IfNone o (
+            IsAsked self.old.id asked.old.reads asked.old.instrs asked.new)) }
 
         // Attempts and misses are counted, and the closure was called as often as there were attempts.
         ensures counted { HasOffered (agent_of storage.now self.old) (agent_of storage.now self.new)
@@ -341,80 +342,10 @@ impl AgentPart {
         ensures callable { F.IsAlwaysCallable between.new }
         ensures calls { Ran (λ f g. F.step f tt g) between.old (offers_in result) between.new }
     {
-        self.make_ready(alloc, storage, reads.as_slice(), scans, instrs)?;
-        match self.refusal(alloc, storage, reads, scans, instrs)? {
+        self.make_ready(alloc, storage, asked.reads.as_slice(), scans, &asked.instrs)?;
+        match self.refusal(alloc, storage, &asked.reads, scans, &asked.instrs)? {
             Some(reply) => Ok(Some(reply)),
-            None => self.attempt(alloc, storage, reads, instrs, pending, between),
+            None => self.attempt(alloc, storage, asked, between),
         }
-    }
-
-    /// Take turns until one answers, at most 64.
-    ///
-    /// The closure is called as often as there are attempts. The entry to append is made once.
-    pub(crate) fn fire<A: Aggregator + Sync + Drop, F: FnMut()>(
-        &mut self,
-        alloc: Global,
-        storage: &Storage<A>,
-        reads: &Items<Named>,
-        scans: &[Scanned],
-        instrs: &Instructions,
-        between: &mut F,
-    ) -> Result<Reply, FireError>
-        requires part { IsPartOf A.meaning storage.now self.old }
-        requires few { length reads.now + length scans.now ≤ reads_limit }
-        requires callable { F.IsAlwaysCallable between.old }
-        ensures part { IsPartOf A.meaning storage.now self.new }
-        ensures fire { IsFireOver A.meaning (agent_of storage.now self.old) (agent_of storage.now self.new)
-            reads.now scans.now instrs.now result }
-        ensures callable { F.IsAlwaysCallable between.new }
-        ensures offers { (n : ℕ) ×
-            MadeOffers (agent_of storage.now self.old) (agent_of storage.now self.new) result n ×
-            Ran (λ f g. F.step f tt g) between.old n between.new }
-    {
-        let from = self.progress.seen_len();
-        let mut pending = None;
-        for lost in 0..OFFERS_LIMIT {
-            match self.turn(alloc, storage, reads, scans, instrs, &mut pending, between)? {
-                Some(reply) => return Ok(reply),
-                None => {}
-            }
-        }
-        Err(FireError::Busy {
-            from,
-            to: self.progress.seen_len(),
-        })
-    }
-
-    /// Fire a move of the part's agent, as `Agent::try_fire_over_with` does.
-    ///
-    /// The part came from this storage. Its receipt shares the list of the reads, which isn't copied.
-    ///
-    /// # Errors
-    ///
-    /// - Those of `Agent::try_fire_over_with`.
-    pub fn try_fire_over<A: Aggregator + Sync + Drop, F: FnMut()>(
-        &mut self,
-        alloc: Global,
-        storage: &Storage<A>,
-        reads: &Items<Named>,
-        scans: &[Scanned],
-        instrs: &Instructions,
-        between: &mut F,
-    ) -> Result<Reply, FireError>
-        requires part { IsPartOf A.meaning storage.now self.old }
-        requires callable { F.IsAlwaysCallable between.old }
-        ensures part { IsPartOf A.meaning storage.now self.new }
-        ensures fire { IsFireOver A.meaning (agent_of storage.now self.old) (agent_of storage.now self.new)
-            reads.now scans.now instrs.now result }
-        ensures callable { F.IsAlwaysCallable between.new }
-        ensures offers { (n : ℕ) ×
-            MadeOffers (agent_of storage.now self.old) (agent_of storage.now self.new) result n ×
-            Ran (λ f g. F.step f tt g) between.old n between.new }
-    {
-        let named = reads.as_slice().len();
-        if named > READS_LIMIT || scans.len() > READS_LIMIT - named {
-            return Err(FireError::ManyReads);
-        }
-        self.fire(alloc, storage, reads, scans, instrs, between)
     }
 }

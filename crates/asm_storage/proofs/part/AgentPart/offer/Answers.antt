@@ -1,5 +1,9 @@
-use Rattle.std.proofs.Common.{◌≡◌, ◌+◌, [], ◌∷◌, ◌++◌, ap, arith, sym, ◌∙◌, subst}
+use Rattle.std.proofs.Common.{◌≡◌, ◌+◌, Some, [], ◌∷◌, ◌++◌, ap, arith, sym, ◌∙◌, subst}
 use Rattle.asm_row.specs.Seat.{SeatView}
+use Rattle.asm_storage.specs.declared.call.Call.{Call}
+use Rattle.asm_storage.specs.declared.call.Call.TheVariants as call
+use Rattle.asm_storage.specs.declared.call.Answer.TheVariants as answer
+use Rattle.asm_storage.specs.declared.call.Reply.TheVariants as reply
 use Rattle.asm_storage.specs.declared.entry.Entry.{Entry}
 use Rattle.asm_storage.specs.declared.receipt.Receipt.{Receipt}
 use Rattle.asm_storage.specs.Agents.{AgentView, IsAgent}
@@ -13,17 +17,20 @@ pub returns-in-Ok-clause-part : goal.returns-in-Ok-clause-part
 returns-in-Ok-clause-part g c =
     let p = c.args.self.now in
     let seen = p.progress.seen in
-    let entry = c.args.offering.entry.value in
+    let entry = c.args.entry.value in
+    let asked = call.Fire c.args.asked.now.reads c.args.asked.now.instrs in
     let m = machine_of g.A.Aggregator.meaning c.args.storage.now in
     let part = c.requires.part in
     let account : AgentView = account_of p in
-    let r : Receipt = record { call = c.args.offering.call; answer = c.args.answer; stood = c.seen_len-stood.result } in
+    let r : Receipt = record { call = asked; answer = answer.Fire (reply.Fired c.args.number); stood = c.seen_len-stood.result } in
     let mine : Entry = record { agent = p.id; instrs = entry.instrs } in
     let entry_is : entry ≡ mine = ap (λ i. let e : Entry = record { agent = i; instrs = entry.instrs } in e) c.requires.mine in
     let won = c.in-Ok.ensures.won in
     let now = c.try_offer.new.self in
-    let pushed : c.push.new.self.items ≡ c.reserve.new.self.items ++ r ∷ [] = rw c.unwrap.ensures at c.push.ensures.items in
-    let kept = fired_kept m account r entry.instrs part.agent c.seen_len-stood.ensures.value c.requires.reply c.requires.fired in
+    let with_call : Call → Receipt = λ k. record r { call = k } in
+    let pushed : c.push.new.self.items ≡ c.reserve.new.self.items ++ r ∷ [] =
+    rw c.unwrap.ensures at c.push.ensures.items ∙ ap (λ k. c.reserve.new.self.items ++ with_call k ∷ []) c.take_call.ensures in
+    let kept = fired_kept m account r entry.instrs part.agent c.seen_len-stood.ensures.value c.requires.reply (ap Some (sym c.requires.instrs)) in
     record {
       row = c.in-Ok.ensures.row ∙ part.row;
       few = part.few;
