@@ -87,7 +87,8 @@ fn from_below(
     let mut kept = Vec::with_capacity(alloc, locations.len())?;
     for at in locations {
         if step.sees_below(&at) {
-            kept.push(at)?;
+            let shared = at.share(alloc)?;
+            kept.push(shared)?;
         }
     }
     Ok(kept)
