@@ -24,21 +24,21 @@ pub(crate) fn fire_prepared_in<A: Aggregator + Sync + Drop>(
     storage: &Storage<A>,
     part: &mut AgentPart,
     transaction: &Transaction,
-    instrs: &Instructions,
-    reads: &Items<Named>,
+    instrs: Instructions,
+    reads: Items<Named>,
 ) -> Result<Reply, FireError>
     requires part { IsPartOf A.meaning storage.now part.old }
-    requires names { NamesAll transaction.now reads.now }
-    requires one { instrs.now ≡ unwrap_or (one_move transaction.now.layers) [] }
-    requires stands { IsMoveOf transaction.now.layers instrs.now }
+    requires names { NamesAll transaction.now reads }
+    requires one { instrs ≡ unwrap_or (one_move transaction.now.layers) [] }
+    requires stands { IsMoveOf transaction.now.layers instrs }
     ensures part { IsPartOf A.meaning storage.now part.new }
     ensures commits { IsOf A.meaning (agent_of storage.now part.old) transaction.now →
         Commits A.meaning (agent_of storage.now part.old) (agent_of storage.now part.new) transaction.now result }
     ensures once { FiresOnce A.meaning (agent_of storage.now part.old) (agent_of storage.now part.new) transaction.now
-        reads.now instrs.now result }
+        reads instrs result }
 {
     keeps_laws::<A>();
-    part.try_fire_over(
+    part.try_fire_owned(
         alloc,
         storage,
         reads,
@@ -104,7 +104,7 @@ impl Transaction {
         ensures one_fire { IsOneFire A.meaning (agent_of storage.now part.old) (agent_of storage.now part.new) self.now result }
     {
         match self.prepare(alloc) {
-            Ok((instrs, reads)) => fire_prepared_in(alloc, storage, part, self, &instrs, &reads),
+            Ok((instrs, reads)) => fire_prepared_in(alloc, storage, part, self, instrs, reads),
             Err(_) => Err(FireError::Memory),
         }
     }
@@ -125,8 +125,11 @@ impl Transaction {
         let Some(instrs) = self.step.as_move_in_place() else {
             return self.commit_made_in(alloc, storage, part);
         };
+        let Ok(instrs) = instrs.copy(alloc) else {
+            return Err(FireError::Memory);
+        };
         match self.reads(alloc) {
-            Ok(reads) => fire_prepared_in(alloc, storage, part, self, instrs, &reads),
+            Ok(reads) => fire_prepared_in(alloc, storage, part, self, instrs, reads),
             Err(_) => Err(FireError::Memory),
         }
     }

@@ -138,6 +138,6 @@ impl Transaction {
             Ok(_) => {}
             Err(error) => return Err(error),
         }
-        fire_prepared_in(alloc, storage, part, self, &instrs, &reads)
+        fire_prepared_in(alloc, storage, part, self, instrs, reads)
     }
 }

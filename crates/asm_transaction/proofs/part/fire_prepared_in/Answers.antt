@@ -7,7 +7,7 @@ use Rattle.asm_transaction.proofs.part.fire_prepared_in.Goals as goal
 
 pub returns : goal.returns
 returns g c =
-    let fired = c.try_fire_over in
+    let fired = c.try_fire_owned in
     let scans = c.deref.result.now in
     let old = agent_of c.args.storage.now c.args.part.now in
     let new = agent_of c.args.storage.now fired.new.self in
@@ -23,7 +23,7 @@ returns g c =
     record {
       part = fired.ensures.part;
       commits = committed g.A.Aggregator.meaning old new
-          c.args.transaction.now c.args.reads.now scans c.args.instrs.now fired.result
+          c.args.transaction.now c.args.reads scans c.args.instrs fired.result
           (c.keeps_laws.ensures c.args.storage.now.agg) c.requires.names scanned c.requires.stands
           fired.ensures.fire;
       once = record { scans = scans; scanned = scanned; fire = fired.ensures.fire };
