@@ -5,7 +5,7 @@ use denote.Param.SendFields.{as_row_send, as_row_sync, declared_send, declared_s
 use denote.Struct.Field.{row_field, u32-field}
 use Rattle.core.proofs.atomic.Sent.{Atomic-sync}
 use Rattle.core.specs.contracts.atomic.AtomicU64 as Atomic
-use Rattle.std.proofs.Crossing.{Arc-send, Vec-send}
+use Rattle.std.proofs.Crossing.{Arc-send, Box-send, Vec-send}
 use Rattle.asm_update.proofs.Crossing.{instructions_is_sent, state_is_sent, state_is_shared}
 use Rattle.asm_row.proofs.row.Row.TheSendSync as row
 use Rattle.asm_row.specs.contracts.row.Row as Row
@@ -102,7 +102,8 @@ byte_auditor_is_sent =
     (auditor_is_sent, (search (sendable, Vec-send) depth 20, tt))
 
 inside_audit_is_sent : IsSend InsideAudit.the_row
-inside_audit_is_sent = declared_send InsideAudit.the_type (byte_auditor_is_sent, tt)
+inside_audit_is_sent = declared_send InsideAudit.the_type
+    (Box-send (ByteAuditor.the_row standard standard_ghosts) byte_auditor_is_sent, tt)
 
 audit_is_sent : IsSend Audit.the_row
 audit_is_sent = search (sendable, inside_audit_is_sent) depth 20
@@ -138,7 +139,8 @@ reader_is_sent =
     declared_send (RunReader.the_type standard standard_ghosts) (judge_is_sent, (trail_is_sent, tt))
 
 inside_run_is_sent : IsSend InsideRun.the_row
-inside_run_is_sent = declared_send InsideRun.the_type (reader_is_sent, (writer_is_sent, tt))
+inside_run_is_sent = declared_send InsideRun.the_type
+    (Box-send (RunReader.the_row standard standard_ghosts) reader_is_sent, (Box-send RunWriter.the_row writer_is_sent, tt))
 
 run_is_sent : IsSend Run.the_row
 run_is_sent = search (sendable, inside_run_is_sent) depth 20

@@ -33,7 +33,8 @@ pub struct AuditNumbers {
 /// An audit of a run, with the standard aggregator.
 #[derive(Drop)]
 pub struct Audit {
-    auditor: ByteAuditor<Standard>,
+    // Boxed, so that what a slot holds stays small.
+    auditor: Box<ByteAuditor<Standard>>,
 }
 
 impl Model for Audit {
@@ -44,17 +45,16 @@ impl Model for Audit {
 
     ghost coded = { audit_code progress_row.coded };
 
-    ghost view = { λ a. record { progress = a.auditor.auditor.progress; line = a.auditor.line.items } };
+    ghost view = { λ a. record { progress = a.auditor.value.auditor.progress; line = a.auditor.value.line.items } };
 }
 
 impl Audit {
     /// Return an audit that has read nothing.
-    pub(crate) fn new(alloc: Global) -> Audit
-        ensures { WasFed [] result }
+    pub(crate) fn new(alloc: Global) -> Result<Audit, AllocError>
+        ensures { IfOk result (WasFed []) }
     {
-        Audit {
-            auditor: ByteAuditor::new(alloc, standard()),
-        }
+        let auditor = Box::new(alloc, ByteAuditor::new(alloc, standard()))?;
+        Ok(Audit { auditor })
     }
 
     /// Read the next bytes; return how many of them were read, and the answer.

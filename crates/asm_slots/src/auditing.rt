@@ -120,7 +120,8 @@ fn feed_in(
 fn new_audit(alloc: Global) -> Result<Box<Content>, AllocError>
     ensures { IfOk result (λ b. (a : AuditView) × (b.value ≡ content.Audit a) × WasFed [] a) }
 {
-    Ok(Box::new(alloc, Content::Audit(Audit::new(alloc)))?)
+    let audit = Audit::new(alloc)?;
+    Ok(Box::new(alloc, Content::Audit(audit))?)
 }
 
 /// Do what `asm_audit` does.

@@ -18,7 +18,7 @@ use crate::codes::{Code, write};
 use asm_aggregate::{Standard, standard};
 use asm_journal::state_text;
 use asm_run::{Place, ReadError, Request, RunReader, RunWriter, SegmentName, Stage, WriteError};
-use std::alloc::Global;
+use std::alloc::{AllocError, Global};
 use std::marker::Model;
 
 /// What the name of a segment says.
@@ -50,10 +50,10 @@ pub struct RunNumbers {
 /// The reader and the writer of the folder of a run, with the standard aggregator.
 #[derive(Drop)]
 pub struct Run {
-    // What was read of the folder.
-    reader: RunReader<Standard>,
+    // What was read of the folder. Both are boxed, so that what a slot holds stays small.
+    reader: Box<RunReader<Standard>>,
     // What is saved, and which call of the system comes next.
-    writer: RunWriter,
+    writer: Box<RunWriter>,
 }
 
 impl Model for Run {
@@ -68,11 +68,11 @@ impl Model for Run {
     ghost coded = { run_code progress_row.coded error_row.coded trail_row.coded writer_row.coded };
 
     ghost view = { λ r. record {
-      progress = r.reader.judge.auditor.auditor.progress;
-      line = r.reader.judge.auditor.line.items;
-      fault = r.reader.judge.fault;
-      trail = r.reader.trail;
-      writer = r.writer;
+      progress = r.reader.value.judge.auditor.auditor.progress;
+      line = r.reader.value.judge.auditor.line.items;
+      fault = r.reader.value.judge.fault;
+      trail = r.reader.value.trail;
+      writer = r.writer.value;
     } };
 }
 
@@ -164,13 +164,12 @@ impl RunNumbers {
 
 impl Run {
     // Return a run whose folder this process has locked.
-    pub(crate) fn begin(alloc: Global) -> Run
-        ensures { HasBegun result }
+    pub(crate) fn begin(alloc: Global) -> Result<Run, AllocError>
+        ensures { IfOk result HasBegun }
     {
-        Run {
-            reader: RunReader::new(alloc, standard()),
-            writer: RunWriter::open(),
-        }
+        let reader = Box::new(alloc, RunReader::new(alloc, standard()))?;
+        let writer = Box::new(alloc, RunWriter::open())?;
+        Ok(Run { reader, writer })
     }
 
     fn take_name(
@@ -284,10 +283,10 @@ impl Run {
         ensures { Hands moves events text.now out.old out.new written.new result self.old self.new }
     {
         *written = 0;
-        let mut next = self.writer;
+        let mut next = *self.writer;
         let name = next.hand(alloc, moves, events, text)?;
         write(name.as_slice(), out, written)?;
-        self.writer = next;
+        *self.writer = next;
         Ok(())
     }
 

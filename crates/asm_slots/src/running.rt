@@ -26,7 +26,8 @@ use std::alloc::{AllocError, Global};
 fn new_run(alloc: Global) -> Result<Box<Content>, AllocError>
     ensures { IfOk result (λ b. (x : RunView) × (b.value ≡ content.Run x) × HasBegun x) }
 {
-    Ok(Box::new(alloc, Content::Run(Run::begin(alloc)))?)
+    let run = Run::begin(alloc)?;
+    Ok(Box::new(alloc, Content::Run(run))?)
 }
 
 /// Do what `asm_run_open` does.
