@@ -4,23 +4,26 @@ import java.io.IOException;
 import java.io.UncheckedIOException;
 import java.nio.channels.FileChannel;
 import java.nio.file.Path;
+import java.util.ArrayList;
 import java.util.List;
 
 /** The audit of a run's folder, which reads each byte of it once. */
 final class FolderAudit implements AutoCloseable {
     private final Path path;
-    private final List<Segment> segments;
+    private final List<String> names;
+    /** The segments whose texts were judged. */
+    private final List<Segment> segments = new ArrayList<>();
     private final Trail trail = new Trail();
     private volatile RuntimeException fault;
 
-    /** Lists the segments that are in the folder now. */
+    /** Lists the names that are in the folder now. */
     FolderAudit(Path path) throws IOException {
         this.path = path;
-        segments = Segment.of(path);
+        names = Segment.names(path);
     }
 
     /**
-     * Audits the names and the texts.
+     * Audits the names and the texts, segment by segment.
      *
      * <p>Returns false if a segment was removed meanwhile, as the run keeps later ones alone.
      *
@@ -29,11 +32,11 @@ final class FolderAudit implements AutoCloseable {
      */
     boolean read() throws IOException {
         try {
-            for (Segment segment : segments) trail.take(segment, path);
+            for (String name : names) segments.add(trail.take(name, path));
             return true;
         } catch (DamagedException found) {
             fault = found;
-            if (Segment.of(path).get(0).number() > found.segment())
+            if (isDropped(found.segment()))
                 return false;
             throw found;
         } catch (RuntimeException found) {
@@ -42,6 +45,15 @@ final class FolderAudit implements AutoCloseable {
         } catch (IOException found) {
             fault = new UncheckedIOException(found);
             throw found;
+        }
+    }
+
+    /** Whether the run now begins after the segment. */
+    private boolean isDropped(long segment) throws IOException {
+        try (Trail present = new Trail()) {
+            return present.name(Segment.names(path).get(0), 0).number() > segment;
+        } catch (DamagedException fault) {
+            return false;
         }
     }
 

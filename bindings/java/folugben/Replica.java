@@ -45,7 +45,7 @@ final class Replica {
         segment = last.segment();
         applied = last.place();
         try (Trail trail = new Trail()) {
-            trail.take(segment, log.length(segment), sink -> log.text(segment, sink));
+            trail.take(segment.name(), log.length(segment), sink -> log.text(segment, sink));
             era = new Era(trail.core.state(), segment.number() + 1, segment.end(), moves);
         }
     }

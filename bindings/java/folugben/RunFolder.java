@@ -102,10 +102,10 @@ final class RunFolder implements AutoCloseable {
     /** Opens the folder of an earlier run, of which it audits no more than the check says. */
     static RunFolder reopen(Path path, Run.Check check) throws IOException {
         Path real = real(path);
-        Segment.of(real); // nothing is created in a folder without a run
+        Segment.names(real); // nothing is created in a folder without a run
         RunFolder there = new RunFolder(real);
         try {
-            there.read(Segment.of(real), check);
+            there.read(Segment.names(real), check);
             Files.deleteIfExists(real.resolve(NEW));
             return there;
         } catch (IOException | RuntimeException | Error fault) {
@@ -114,11 +114,12 @@ final class RunFolder implements AutoCloseable {
         }
     }
 
-    private void read(List<Segment> segments, Run.Check check) throws IOException {
-        int unread = check == Run.Check.ALL ? 0 : segments.size() - 1;
-        trail.skip(segments.subList(0, unread).stream().map(Segment::name).toList());
-        for (Segment segment : segments.subList(unread, segments.size())) trail.take(segment, path);
-        for (Segment segment : segments) there.put(segment.number(), segment.name());
+    private void read(List<String> names, Run.Check check) throws IOException {
+        int unread = check == Run.Check.ALL ? 0 : names.size() - 1;
+        for (Segment segment : trail.skip(names.subList(0, unread)))
+            there.put(segment.number(), segment.name());
+        for (String name : names.subList(unread, names.size()))
+            there.put(trail.take(name, path).number(), name);
         core.read();
         file = path.resolve(last().name());
         written = FileId.of(file, LinkOption.NOFOLLOW_LINKS);

@@ -10,6 +10,7 @@ import java.nio.file.NoSuchFileException;
 import java.nio.file.Path;
 import java.util.List;
 import java.util.Locale;
+import java.util.function.LongSupplier;
 import java.util.stream.Stream;
 
 /**
@@ -43,24 +44,29 @@ record Segment(long number, long first, long moves, long events, String name) {
     }
 
     /**
-     * Returns the segments that are in the folder now; reads no text.
+     * Returns the names that are in the folder now, also if they aren't those of a run: who takes
+     * them finds the first fault.
      *
      * @throws NoSuchFileException if there is none
-     * @throws DamagedException if the names aren't those of a run
      */
-    static List<Segment> of(Path folder) throws IOException {
-        for (List<String> names; !(names = names(folder)).isEmpty();)
-            try (Trail trail = new Trail()) {
-                return trail.skip(names);
-            } catch (DamagedException fault) {
-                // Another process may have saved and removed some while they were listed.
-                if (names.equals(names(folder)))
-                    throw fault;
-            }
+    static List<String> names(Path folder) throws IOException {
+        for (List<String> names; !(names = listed(folder)).isEmpty();)
+            // Another process may have saved and removed some while they were listed.
+            if (areOfRun(names) || names.equals(listed(folder)))
+                return names;
         throw new NoSuchFileException(folder.toString(), null, "the folder has no run");
     }
 
-    private static List<String> names(Path folder) throws IOException {
+    private static boolean areOfRun(List<String> names) {
+        try (Trail trail = new Trail()) {
+            trail.skip(names);
+            return true;
+        } catch (DamagedException fault) {
+            return false;
+        }
+    }
+
+    private static List<String> listed(Path folder) throws IOException {
         try (Stream<Path> all = Files.list(folder)) {
             return all.map(it -> it.getFileName().toString())
                     .filter(it -> it.endsWith(SUFFIX)).sorted().toList();
@@ -69,14 +75,19 @@ record Segment(long number, long first, long moves, long events, String name) {
 
     /** Opens its file in the folder, which is no link. */
     FileChannel opened(Path folder) throws IOException {
+        return opened(folder, name, this::number);
+    }
+
+    /** Opens the file with a name in the folder, which is no link, of the segment with a number. */
+    static FileChannel opened(Path folder, String name, LongSupplier number) throws IOException {
         try {
             return Strangers.channel(folder.resolve(name), LinkOption.NOFOLLOW_LINKS);
         } catch (NoSuchFileException missing) {
-            throw new DamagedException(number, "its file is missing");
+            throw new DamagedException(number.getAsLong(), "its file is missing");
         } catch (AccessDeniedException fault) {
             throw fault;
         } catch (FileSystemException other) {
-            throw new DamagedException(number, "its file is no regular file");
+            throw new DamagedException(number.getAsLong(), "its file is no regular file");
         }
     }
 }

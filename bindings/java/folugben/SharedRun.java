@@ -166,7 +166,7 @@ public final class SharedRun implements AutoCloseable {
      */
     public static Auditor.Counts audit(String target) {
         try (Trail trail = new Trail()) {
-            read(target, trail::take);
+            read(target, (segment, length, source) -> trail.take(segment.name(), length, source));
             return trail.counts();
         }
     }

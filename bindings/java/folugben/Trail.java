@@ -135,17 +135,18 @@ final class Trail implements AutoCloseable {
         return new DamagedException(last.number(), "its text isn't the one that was saved");
     }
 
-    /** Takes a segment, whose text the source gives. */
-    void take(Segment segment, long length, Source source) throws IOException {
-        name(segment.name(), length);
+    /** Takes the next segment, whose text the source gives: returns it. */
+    Segment take(String name, long length, Source source) throws IOException {
+        Segment segment = name(name, length);
         source.give(this::text);
         end();
+        return segment;
     }
 
-    /** Takes a segment of a folder. */
-    void take(Segment segment, Path folder) throws IOException {
-        try (FileChannel file = segment.opened(folder)) {
-            take(segment, file.size(), sink -> read(file, sink));
+    /** Takes the next segment of a folder: returns it. */
+    Segment take(String name, Path folder) throws IOException {
+        try (FileChannel file = Segment.opened(folder, name, () -> name(name, 0).number())) {
+            return take(name, file.size(), sink -> read(file, sink));
         }
     }
 

@@ -240,7 +240,7 @@ final class AuditTests {
         }
     }
 
-    private static long damagedAt(Runnable call) {
+    static long damagedAt(Runnable call) {
         try {
             call.run();
         } catch (DamagedException fault) {

@@ -20,9 +20,15 @@ final class KeepTests {
         }
     }
 
-    /** The numbers of the segments that are there. */
+    /** The segments that are there, whose texts aren't read. */
+    static List<Segment> segments(Path path) throws IOException {
+        try (Trail trail = new Trail()) {
+            return trail.skip(Segment.names(path));
+        }
+    }
+
     private static List<Long> numbers(Path path) throws IOException {
-        return Segment.of(path).stream().map(Segment::number).toList();
+        return segments(path).stream().map(Segment::number).toList();
     }
 
     private static void theLastStay(Path path) throws IOException {

@@ -125,17 +125,13 @@ final class ResumeTests {
         }
     }
 
-    /** Resuming reports that the segment is at fault, and leaves each file unchanged. */
+    /** Resuming, and an audit of all, report the segment at fault, and leave each file unchanged. */
     private static void isDamaged(Path path, long segment, Run.Check check) throws IOException {
         List<Path> files = RunTests.files(path);
-        try {
-            Run.resume(path, check).close();
-        } catch (DamagedException fault) {
-            equal(fault.segment(), segment);
-            equal(RunTests.files(path), files);
-            return;
-        }
-        throw new IllegalStateException("a run with a fault is resumed");
+        equal(AuditTests.damagedAt(() -> Run.resume(path, check).close()), segment);
+        if (check == Run.Check.ALL)
+            equal(AuditTests.damagedAt(() -> Auditor.audit(path)), segment);
+        equal(RunTests.files(path), files);
     }
 
     /** One flipped bit, or a lost end, in any segment. */
@@ -182,11 +178,12 @@ final class ResumeTests {
             isDamaged(path, 1, Run.Check.ALL);
             Files.move(path.resolve(bad), second);
         }
-        // Of these the names alone show the fault, which is between the second and the third.
+        // Its text shows that the name is another; by the names alone the third is at fault.
         for (String bad : List.of(name.replace("-2-2-", "-1-2-"),
                      name.replace("-2-2-", "-18446744073709551615-2-"),
                      name.substring(0, 80) + zeros + Segment.SUFFIX)) {
             Files.move(second, path.resolve(bad));
+            isDamaged(path, 1, Run.Check.ALL);
             isDamaged(path, 2, Run.Check.LAST);
             Files.move(path.resolve(bad), second);
         }
@@ -219,7 +216,7 @@ final class ResumeTests {
     /** A text that isn't legal is refused even if its digest is right. */
     private static void illegalSegmentsAreRefused(Path path) throws IOException {
         small(path);
-        List<Segment> segments = Segment.of(path);
+        List<Segment> segments = KeepTests.segments(path);
         Path last = RunTests.files(path).get(3);
         byte[] text = Files.readString(last).replace("fired\":1", "fired\":2")
                 .getBytes(StandardCharsets.UTF_8);
