@@ -319,6 +319,9 @@ class replayer {
         {"close", [this](const words &) { return journal_ = storage_.value().close(), "null"; }},
         {"journal", [this](const words &) { return check(journal_, recorded(journal_)); }},
         {"lines", [this](const words &) { return lines(journal_); }},
+        {"recorded", [this](const words &) { return lines(journal_); }},
+        {"left", [this](const words &) { return folugben::replay_json(journal_); }},
+        {"length", [this](const words &of) { return std::to_string(move(of[0]).size()); }},
         {"check", [this](const words &of) { return check(text(of[0]), 0); }},
         {"replay", [](const words &of) { return folugben::replay_json(text(of[0])); }},
         {"audit", [this](const words &of) { return audit(text(of[0])); }},
@@ -348,12 +351,17 @@ int replay(const std::string &path, bool is_recording) {
     std::uint32_t times = 1;
     for (int number_of_line = 1; std::getline(file, line); ++number_of_line) {
         words of = split(expanded(line));
-        const std::string call = text(of.front());
+        std::string call = text(of.front()), wanted;
         of.erase(of.begin());
-        std::string wanted;
+        if (call == "text") {
+            // The words are texts that may be no JSON.
+            for (std::string &it : of) it = it.starts_with('"') ? text(it) : it;
+            call = of.front();
+            of.erase(of.begin());
+        }
         if (call == "repeat") times = number(of.front());
         // The journal of agents that record has their reads too.
-        if (call == "repeat" || (call == "lines" && is_recording)) continue;
+        if (call == "repeat" || call == (is_recording ? "lines" : "recorded")) continue;
         if (call != "case" && call != "end") {
             wanted = of.back();
             of.pop_back();

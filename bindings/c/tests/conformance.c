@@ -39,7 +39,7 @@ static int32_t opened(int32_t code, struct asm_storage *made) {
         return write_null(code);
     }
     free(made);
-    if (code == ASM_SHAPE)
+    if (code == ASM_SHAPE || code == ASM_NOT_JSON)
         explain(ASM_FORM_STATE, BYTES(words[0]));
     return code;
 }
@@ -170,6 +170,12 @@ static int32_t closed(void) {
     return write_null(code);
 }
 
+/* The state that the journal leaves. */
+static int32_t left(void) {
+    uint64_t line = 0;
+    return WRITES(asm_replay(journal, journal_len, OUT, &line));
+}
+
 /* The events of the journal, behind its header. */
 static int32_t lines(void) {
     const uint8_t *from = (const uint8_t *)memchr(journal, '\n', journal_len) + 1;
@@ -233,7 +239,8 @@ static int32_t answer(const char *call) {
     }
     if (IS("close")) return closed();
     if (IS("journal")) return checked(&(struct word){(char *)journal, journal_len}, recorded_reads());
-    if (IS("lines")) return lines();
+    if (IS("lines") || IS("recorded")) return lines();
+    if (IS("left")) return left();
     if (IS("check")) return checked(text(0), 0);
     if (IS("replay")) {
         struct word *it = text(0);
@@ -306,9 +313,15 @@ static bool is_answered(char *line, size_t len) {
     *said = *numbers = 0;
     if (IS("case"))
         return begin_case(), true;
-    bool is_end = IS("end");
+    bool is_end = IS("end"), is_text = IS("text");
     memset(words, 0, sizeof words);
-    memcpy(words, all + 1, (n - 1 - !is_end) * sizeof *words);
+    memcpy(words, all + 1 + is_text, (n - 1 - is_text - !is_end) * sizeof *words);
+    if (is_text) {
+        snprintf(call, sizeof call, "%.*s", (int)all[1].len - 2, all[1].at + 1);
+        for (size_t i = 0; i < WORDS; i++)
+            if (words[i].len && words[i].at[0] == '"')
+                unquoted(&words[i]);
+    }
     if (is_end)
         return asm_free_step(step(0)), true;
     if (all[n - 1].len >= sizeof wanted)
@@ -329,25 +342,10 @@ static bool is_answered(char *line, size_t len) {
     return is_right;
 }
 
-/* Copies the line, with the items that an {"each":COUNT,"of":ITEM} stands for in its place, each with its number for "#". */
-static void expand(const char *line, char *into) {
-    static const char each[] = "{\"each\":", of[] = ",\"of\":", place[] = "\"#\"";
-    for (const char *next; (next = strstr(line, each)); line++) {
-        unsigned long count = strtoul(next + strlen(each), NULL, 10);
-        const char *item = strstr(next, of) + strlen(of), *end = strchr(item, '}');
-        memcpy(into, line, (size_t)(next - line));
-        into += next - line;
-        for (unsigned long i = 0; i < count; i++) {
-            into += sprintf(into, "%s", i ? "," : "");
-            for (const char *at = item; at < end; at++) {
-                bool is_number = !strncmp(at, place, strlen(place));
-                into += is_number ? sprintf(into, "%lu", i) : sprintf(into, "%c", *at);
-                at += is_number ? strlen(place) - 1 : 0;
-            }
-        }
-        line = end;
-    }
-    strcpy(into, line);
+/* The journal of agents that record has their reads too, and the length of a move is no call of C. */
+static bool is_left_out(const char *line) {
+    const char *other = is_recording ? "[\"lines\"" : "[\"recorded\"", *length = "[\"length\"";
+    return !strncmp(line, other, strlen(other)) || !strncmp(line, length, strlen(length));
 }
 
 /* Makes the calls of a table; returns how many lines it has. */
@@ -361,8 +359,7 @@ static size_t replay(const char *path) {
     while (fgets(line, sizeof line, file)) {
         line[strcspn(line, "\n")] = 0;
         count++;
-        /* The journal of agents that record has their reads too. */
-        if (sscanf(line, "[\"repeat\",%lu]", &times) == 1 || (is_recording && !strncmp(line, "[\"lines\"", strlen("[\"lines\""))))
+        if (sscanf(line, "[\"repeat\",%lu]", &times) == 1 || is_left_out(line))
             continue;
         for (; times > 0; times--) {
             expand(line, copy);

@@ -107,4 +107,25 @@ static inline size_t split(char *line, size_t len, struct word *into) {
     return n;
 }
 
+/* Copies the line, with the items that an {"each":COUNT,"of":ITEM} stands for in its place, each with its number for "#". */
+static inline void expand(const char *line, char *into) {
+    static const char each[] = "{\"each\":", of[] = ",\"of\":", place[] = "\"#\"";
+    for (const char *next; (next = strstr(line, each)); line++) {
+        unsigned long count = strtoul(next + strlen(each), NULL, 10);
+        const char *item = strstr(next, of) + strlen(of), *end = strchr(item, '}');
+        memcpy(into, line, (size_t)(next - line));
+        into += next - line;
+        for (unsigned long i = 0; i < count; i++) {
+            into += sprintf(into, "%s", i ? "," : "");
+            for (const char *at = item; at < end; at++) {
+                bool is_number = !strncmp(at, place, strlen(place));
+                into += is_number ? sprintf(into, "%lu", i) : sprintf(into, "%c", *at);
+                at += is_number ? strlen(place) - 1 : 0;
+            }
+        }
+        line = end;
+    }
+    strcpy(into, line);
+}
+
 #endif

@@ -44,9 +44,14 @@ static struct word bytes_of(struct word *value) {
     return kind == ASM_KIND_TEXT ? *unquoted(value) : kind > ASM_KIND_TEXT ? *value : (struct word){0};
 }
 
-static void prepare(struct word place, struct asm_location *at) {
-    if (asm_location(BYTES(place), at) != ASM_DONE)
-        fail("asm_location");
+static int32_t prepare(struct word place, struct asm_location *at) {
+    int32_t code = asm_location(BYTES(place), at);
+    if (code == ASM_SHAPE || code == ASM_NOT_JSON) {
+        static char list[LINE];
+        int len = snprintf(list, sizeof list, "[%.*s]", (int)place.len, place.at);
+        explain(ASM_FORM_LOCATIONS, (const uint8_t *)list, (size_t)len);
+    }
+    return code;
 }
 
 static int32_t gather_one(struct word instruction) {
@@ -58,12 +63,14 @@ static int32_t gather_one(struct word instruction) {
         i++;
     while (strncmp(verbs[verb], its[0].at, its[0].len))
         verb++;
-    prepare(its[1], &at);
+    int32_t code = prepare(its[1], &at);
+    if (code != ASM_DONE)
+        return code;
     int32_t kind = kind_of(its[2]);
     int64_t number = number_of(its[2]);
     struct word bytes = bytes_of(&its[2]);
     uint32_t amount = its[3].len ? (uint32_t)strtoul(its[3].at, NULL, 10) : 0;
-    int32_t code = asm_instruct(move_at(0), &at, verb, kind, number, BYTES(bytes), amount);
+    code = asm_instruct(move_at(0), &at, verb, kind, number, BYTES(bytes), amount);
     asm_free_location(&at);
     return code;
 }
@@ -101,22 +108,28 @@ static void write_value(asm_value value) {
     }
 }
 
-/* Counts the element of the third word in the set or the bag at the location of the second one. */
+/* Counts the element of the third word in the set or the bag at the location of the second one, by both calls. */
 static int32_t count_of(uint32_t *count) {
     struct asm_location at = {0};
-    prepare(words[1], &at);
+    int32_t code = prepare(words[1], &at);
+    if (code != ASM_DONE)
+        return code;
     int32_t kind = kind_of(words[2]);
     int64_t number = number_of(words[2]);
     struct word bytes = bytes_of(&words[2]);
-    int32_t code = asm_count_of(agent(0), step(0), &at, kind, number, BYTES(bytes), count);
+    bool has = true;
+    code = asm_count_of(agent(0), step(0), &at, kind, number, BYTES(bytes), count);
+    if (asm_has(agent(0), step(0), &at, kind, number, BYTES(bytes), &has) != code || has != (*count > 0))
+        fail("asm_has");
     asm_free_location(&at);
     return code;
 }
 
 static int32_t size_of(uint64_t *size) {
     struct asm_location at = {0};
-    prepare(words[1], &at);
-    int32_t code = asm_size(agent(0), step(0), &at, size);
+    int32_t code = prepare(words[1], &at);
+    if (code == ASM_DONE)
+        code = asm_size(agent(0), step(0), &at, size);
     asm_free_location(&at);
     return code;
 }
@@ -156,8 +169,10 @@ static int32_t at_prepared(bool gets) {
     asm_value value = {9, 9};
     struct asm_location at = {0};
     uint32_t found = 0;
-    prepare(words[1], &at);
-    int32_t code = gets ? WRITES(asm_get_at(agent(0), step(0), &at, &value, OUT)) : WRITES(asm_peek_at(agent(0), &at, &found, &value, OUT));
+    int32_t code = prepare(words[1], &at);
+    if (code != ASM_DONE)
+        return code;
+    code = gets ? WRITES(asm_get_at(agent(0), step(0), &at, &value, OUT)) : WRITES(asm_peek_at(agent(0), &at, &found, &value, OUT));
     asm_free_location(&at);
     if (code != ASM_DONE && (value.kind || value.number))
         fail("the value of a refused call");

@@ -3,6 +3,7 @@
 bindings/conformance has the table, and describes its lines.
 """
 import json
+import pickle
 import re
 import unittest
 from collections import Counter
@@ -10,10 +11,15 @@ from collections import Counter
 import folugben
 import own
 from checkout import ROOT
-from folugben import Auditor, BadJournalError, ClashError, Error, LargeError, Location, Move, StaleError, Storage
+from folugben import Auditor, BadJournalError, ClashError, CommitClashError, Error, LargeError, Location, Move, OverError, StaleError, Storage
 
 TABLES = ROOT / "bindings" / "conformance"
 FORMS = ["LOCATIONS", "MOVE", "STATE", "EVENT", "SCRIPT"]
+# The codes that have a class of their own.
+KINDS = {
+    "STALE": StaleError, "CLASH": ClashError, "LARGE": LargeError, "FULL": folugben.FullError, "MANY": folugben.ManyError,
+    "LONG_MOVE": folugben.ManyError, "MISSING": folugben.MissingError, "MOVED": folugben.MovedError, "DEEP": folugben.DeepError,
+}
 
 
 def expanded(line):
@@ -114,6 +120,8 @@ class Replayer:
         self.steps[own].free()
 
     def on_step(self, name, own, *words):
+        if self.record and name in ("has", "count_of", "size"):
+            words = Location(words[0]), *words[1:]
         return getattr(self.steps[own], name)(*words)
 
     def get_at(self, own, place):
@@ -141,11 +149,18 @@ class Replayer:
     def drop(self, move):
         self.gathered.pop(move, None)
 
+    def length(self, move):
+        return len(self.move(move))
+
     def depth(self, own):
         return self.steps[own].depth
 
     def commit(self, own):
-        return {"fired": self.steps[own].commit()}
+        step = self.steps[own]
+        if self.record and step.try_commit() == 0:
+            assert step.fired == 0
+            return self.answer(own)
+        return {"fired": step.fired if self.record else step.commit()}
 
     def get_all(self, own, name):
         return self.steps[own].scan(name)
@@ -161,6 +176,11 @@ class Replayer:
 
     def lines(self):
         return list(map(json.loads, self.text.splitlines()[1:]))
+
+    recorded = lines
+
+    def left(self):
+        return folugben.replay(self.text)
 
     def check(self, text):
         return list(folugben.check(text))
@@ -179,21 +199,37 @@ class Replayer:
             if name in ("get", "see", "has", "count_of", "size", "any", "count", "push", "extend", "pop", "offer"):
                 return self.on_step(name, *words)
             return getattr(self if hasattr(self, name) else folugben, name)(*words)
-        except StaleError as stale:
-            return {"stale": stale.at}
-        except ClashError as clash:
-            return {"clash": [clash.at, clash.cause]}
-        except LargeError as large:
-            return {"large": large.at}
         except Error as error:
+            expect_words(name, error)
             return refused(error)
+
+
+def expect_words(call, error):
+    """Check the class and the words of an error, which its copies have too."""
+    code, text = error.code.name, str(error)
+    kind = KINDS.get(code, Error)
+    if call in ("check", "replay", "audit"):
+        kind = BadJournalError
+    elif call == "commit" and kind is ClashError:
+        kind = CommitClashError
+    assert type(error) is kind or type(error) is OverError and code == "EMPTY", repr(error)
+    assert error.detail in text and (folugben.error_text(error.code) in text or error.detail or type(error) is OverError), text
+    assert all(str(number) in text for number in error.numbers), text
+    assert str(pickle.loads(pickle.dumps(error))) == text
 
 
 def refused(error):
     """Return the table's form of an error.
 
-    It has its code, and where and why, and its numbers, with that of the part in an audit.
+    It has its location, or its code, and where and why, and its numbers, with that of the part in an audit.
     """
+    match error:
+        case StaleError():
+            return {"stale": error.at}
+        case ClashError():
+            return {"clash": [error.at, error.cause]}
+        case LargeError():
+            return {"large": error.at}
     part = [error.part] if isinstance(error, BadJournalError) and error.part is not None else []
     return {"error": error.code.name, "said": error.detail, "numbers": [*error.numbers, *part]}
 
@@ -215,7 +251,7 @@ def in_python(call, wanted):
         return own.call(wanted) if "fire" in wanted else wanted
     if call in ("get", "see"):
         return list(map(own.value, wanted))
-    if call in ("state", "scan", "get_all", "aggregate", "replay"):
+    if call in ("state", "scan", "get_all", "aggregate", "replay", "left"):
         return own.pairs(wanted)
     return list(own.call({"fire": wanted, "reads": []})["fire"]) if call == "compose" else wanted
 
@@ -239,8 +275,8 @@ class Conformance(unittest.TestCase):
                 replayer.case(case)
             elif call == "repeat":
                 (times,) = words
-            # The journal of agents that record has their reads too.
-            elif call != "lines" or not record:
+            # The journal of agents that record has their reads too. A call here takes values, and no texts that aren't JSON.
+            elif call not in ("text", "lines" if record else "recorded"):
                 *words, wanted = [*words, None] if call == "end" else words
                 for _ in range(times):
                     self.assert_answer(call, replayer.call(call, *words), wanted, f"{name}.jsonl:{number}, {case}: {line[:200]}")

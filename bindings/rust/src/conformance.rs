@@ -130,10 +130,12 @@ impl Replayer {
                 let journal = self.journal.as_ref().unwrap();
                 return checked(journal, self.recorded(journal));
             }
-            "lines" => {
+            "lines" | "recorded" => {
                 let text = String::from_utf8_lossy(self.journal.as_ref().unwrap().as_bytes()).into_owned();
                 return Ok(format!("[{}]", text.lines().skip(1).collect::<Vec<_>>().join(",")));
             }
+            "left" => return Ok(self.journal.as_ref().unwrap().replay().map_err(Refusal::Journal)?.as_slice().json()),
+            "length" => return Ok(self.gathered.entry(next().number().unwrap()).or_default().len().to_string()),
             "gather" | "unite" | "drop" => self.gather(name, words)?,
             "check" => return checked(&next().text().unwrap().into_bytes().into(), 0),
             "replay" => {
@@ -328,10 +330,11 @@ fn replay(path: &Path, is_recording: bool) -> (usize, usize) {
         let (name, mut words) = call_of(line);
         match name.as_str() {
             "case" => replayer = Replayer::new(is_recording),
-            // The sentences alone; errors of the crate have them.
-            "explain" => {}
+            // The sentences alone, which errors of the crate have, and texts that are no values.
+            "explain" | "text" => {}
             // The journal of agents that record has their reads too.
             "lines" if is_recording => {}
+            "recorded" if !is_recording => {}
             "repeat" => times = words.remove(0).number().unwrap(),
             _ => {
                 let wanted = if name == "end" { "null" } else { last_word(line) };
@@ -339,7 +342,7 @@ fn replay(path: &Path, is_recording: bool) -> (usize, usize) {
                     // A step that isn't there ends nothing.
                     let answer = replayer.answer(&name, call_of(line).1);
                     assert!(
-                        matches_wanted(&answer, wanted),
+                        matches_wanted(&name, &answer, wanted),
                         "{}:{}: {line:.300} answered {answer:?}",
                         path.display(),
                         i + 1

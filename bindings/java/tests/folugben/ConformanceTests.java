@@ -1,24 +1,26 @@
 package folugben;
 
+import static folugben.TableWords.items;
+import static folugben.TableWords.quoted;
+import static folugben.TableWords.string;
+
 import java.io.IOException;
 import java.nio.charset.StandardCharsets;
 import java.nio.file.Files;
 import java.nio.file.Path;
-import java.util.ArrayList;
 import java.util.HashMap;
 import java.util.List;
 import java.util.Map;
 import java.util.function.Function;
-import java.util.regex.Pattern;
-import java.util.stream.Collectors;
-import java.util.stream.IntStream;
 
 /**
  * The table of calls and answers that every package returns: bindings/conformance says what its
- * lines are. The calls are done twice, the second time by agents that record.
+ * lines are. The calls are done twice, the second time with objects, by agents that record.
  */
 final class ConformanceTests {
     private final boolean isRecording;
+    /** Whether the line's words are texts that may be no JSON. */
+    private boolean isOfTexts;
     /** How many reads each agent made by itself. */
     private final Map<String, Integer> read = new HashMap<>();
     private Storage storage;
@@ -30,46 +32,6 @@ final class ConformanceTests {
 
     private ConformanceTests(boolean isRecording) {
         this.isRecording = isRecording;
-    }
-
-    /** The items of an array: its text is split at the commas outside of brackets and strings. */
-    static List<String> items(String array) {
-        List<String> items = new ArrayList<>();
-        int depth = 0;
-        int begin = 1;
-        boolean isString = false;
-        for (int at = 1; at < array.length(); at++) {
-            char unit = array.charAt(at);
-            if (isString) {
-                at += unit == '\\' ? 1 : 0;
-                isString = unit != '"';
-                continue;
-            }
-            isString = unit == '"';
-            if (depth == 0 && (unit == ',' || unit == ']')) {
-                items.add(array.substring(begin, at));
-                begin = at + 1;
-            }
-            depth += "[{".indexOf(unit) >= 0 ? 1 : "]}".indexOf(unit) >= 0 ? -1 : 0;
-        }
-        return items;
-    }
-
-    private static final Pattern EACH = Pattern.compile("\\{\"each\":(\\d+),\"of\":([^{}]*)\\}");
-
-    /** The line with the items that each {"each":COUNT,"of":ITEM} stands for. */
-    private static String expanded(String line) {
-        return EACH.matcher(line).replaceAll(each -> IntStream.range(0, Integer.parseInt(each.group(1)))
-                .mapToObj(at -> each.group(2).replace("\"#\"", "" + at))
-                .collect(Collectors.joining(",")));
-    }
-
-    private static String string(String json) {
-        return Value.parse(json).asText();
-    }
-
-    private static String quoted(String text) {
-        return Value.of(text).json();
     }
 
     private void begin() {
@@ -89,42 +51,40 @@ final class ConformanceTests {
     private String answer(String name, List<String> words) {
         try {
             return called(name, words);
-        } catch (StaleException stale) {
-            return stale.answer();
-        } catch (ClashException | CommitClashException clash) {
-            return clash.answer();
-        } catch (LargeException large) {
-            return large.answer() != null ? large.answer() : refused(large);
         } catch (FolugbenException error) {
-            return refused(error);
+            return TableWords.refused(name, error);
         } catch (IllegalArgumentException error) {
             return "{\"error\":" + quoted(CODES.getOrDefault(name, "SHAPE")) + "}";
+        } catch (IllegalStateException error) {
+            if (!error.getMessage().startsWith("no set or bag: "))
+                throw error;
+            return "{\"error\":\"SHAPE\"}";
         }
+    }
+
+    /** The objects of a text that is an array of some, if they are to be passed; else null. */
+    private <T> List<T> objects(String array, Function<String, T> parse) {
+        return isRecording && !isOfTexts ? TableWords.objects(array, parse) : null;
     }
 
     /** The codes of the arguments that Java refuses by itself. */
     private static final Map<String, String> CODES =
             Map.of("open", "CAPACITY", "next", "CAPACITY", "go_on", "CAPACITY", "agent", "AGENTS");
 
-    private static String refused(FolugbenException error) {
-        List<String> numbers = new ArrayList<>();
-        if (FolugbenException.numberName(error.code()) != null)
-            numbers.add("" + error.number());
-        if (error instanceof AuditException audit)
-            numbers.add("" + audit.part());
-        return "{\"error\":" + quoted(error.code().name()) + ",\"said\":" + quoted(error.getMessage())
-                + ",\"numbers\":[" + String.join(",", numbers) + "]}";
-    }
-
     private String called(String name, List<String> words) {
         String own = words.isEmpty() ? "" : words.get(0);
         return switch (name) {
             case "open" -> {
-                storage = new Storage(own, Integer.parseInt(words.get(1))).record(isRecording);
+                int capacity = Integer.parseInt(words.get(1));
+                List<Pair> state = objects(own, TableWords::pair);
+                storage = state == null ? new Storage(own, capacity) : Storage.open(state, capacity);
+                storage.record(isRecording);
                 yield "null";
             }
             case "next" -> {
-                storage = storage.next(Integer.parseInt(own));
+                Storage before = storage;
+                storage = before.next(Integer.parseInt(own));
+                before.close(); // it is needed no more
                 read.clear();
                 yield "null";
             }
@@ -144,12 +104,14 @@ final class ConformanceTests {
                 yield "null";
             }
             case "journal" -> checked(journal, recorded(journal));
-            case "lines" -> "[" + String.join(",", journal.lines().skip(1).toList()) + "]";
+            case "lines", "recorded" -> "[" + String.join(",", journal.lines().skip(1).toList()) + "]";
+            case "left" -> Storage.replay(journal);
+            case "length" -> "" + move(own).size();
             case "gather", "unite", "drop" -> nothing(() -> gather(name, move(own), words.subList(1, words.size())));
             case "check" -> checked(string(own), 0);
             case "replay" -> Storage.replay(string(own));
-            case "aggregate" -> Moves.aggregate(own, words.get(1));
-            case "compose" -> Moves.compose(own, words.get(1));
+            case "aggregate" -> aggregate(own, words.get(1));
+            case "compose" -> compose(own, words.get(1));
             case "audit" -> audited(string(own));
             case "explain" -> quoted(Storage.explain(Storage.Form.valueOf(string(own)), string(words.get(1))));
             case "begin", "end", "get", "get_at", "see", "get_all", "has", "count_of", "size", "any", "count", "push", "push_move", "extend",
@@ -174,6 +136,23 @@ final class ConformanceTests {
                     move.gather(Instruction.parse(instruction));
     }
 
+    private String aggregate(String state, String move) {
+        List<Pair> pairs = objects(state, TableWords::pair);
+        List<Instruction> all = objects(move, Instruction::parse);
+        Map<Location, Value> values = new HashMap<>();
+        if (pairs != null)
+            pairs.forEach(it -> values.put(it.location(), it.value()));
+        boolean isOfObjects = pairs != null && all != null && values.size() == pairs.size();
+        return isOfObjects ? TableWords.state(Moves.aggregate(values, all)) : Moves.aggregate(state, move);
+    }
+
+    private String compose(String first, String second) {
+        List<Instruction> one = objects(first, Instruction::parse);
+        List<Instruction> other = objects(second, Instruction::parse);
+        return one == null || other == null ? Moves.compose(first, second)
+                                            : TableWords.instructions(Moves.compose(one, other));
+    }
+
     private static String checked(String journal, int recorded) {
         Storage.Checked checked = Storage.check(journal);
         return "[" + (checked.calls() - recorded) + "," + checked.moves() + "]";
@@ -190,7 +169,8 @@ final class ConformanceTests {
     }
 
     private String read(String own, Agent agent, String locations) {
-        String reading = agent.read(locations);
+        List<Location> places = objects(locations, Location::parse);
+        String reading = places == null ? agent.read(locations) : TableWords.reading(agent.read(places));
         read.merge(own, 1, Integer::sum);
         return reading;
     }
@@ -210,26 +190,46 @@ final class ConformanceTests {
             return "" + start.number();
         }
         Step step = steps.get(own);
+        boolean isOfPlaces = name.equals("get") || name.equals("see");
+        boolean isOfMove = name.equals("push") || name.equals("extend");
+        List<Location> places = isOfPlaces ? objects(words.get(0), Location::parse) : null;
+        List<Instruction> all = isOfMove ? objects(words.get(0), Instruction::parse) : null;
         return switch (name) {
-            case "get" -> values(step.get(words.get(0)));
-            case "see" -> values(step.see(words.get(0)));
+            case "get" -> places == null ? values(step.get(words.get(0))) : TableWords.values(step.get(places));
+            case "see" -> places == null ? values(step.see(words.get(0))) : TableWords.values(step.see(places));
+            case "has", "count_of", "size" -> ofMembers(step, name, words);
             case "get_at" -> atPrepared(words.get(0), at -> step.get(at).json());
             case "push_move" -> nothing(() -> step.push(move(words.get(0))));
             case "extend_move" -> nothing(() -> step.extend(move(words.get(0))));
             case "pop_move" -> nothing(() -> step.popMove(move(words.get(0))));
             case "get_all" -> step.scan(string(words.get(0))).pairs();
-            case "has" -> "" + step.has(Location.parse(words.get(0)), (Element) Value.parse(words.get(1)));
-            case "count_of" -> "" + step.countOf(Location.parse(words.get(0)), (Element) Value.parse(words.get(1)));
-            case "size" -> "" + step.size(Location.parse(words.get(0)));
             case "any" -> "" + step.any(string(words.get(0)));
             case "count" -> "" + step.count(string(words.get(0)));
-            case "push" -> nothing(() -> step.push(words.get(0)));
-            case "extend" -> nothing(() -> step.extend(words.get(0)));
+            case "push" -> nothing(all == null ? () -> step.push(words.get(0)) : () -> step.push(all));
+            case "extend" -> nothing(all == null ? () -> step.extend(words.get(0)) : () -> step.extend(all));
             case "pop" -> nothing(step::pop);
             case "depth" -> "" + step.depth();
-            case "offer" -> step.offerText();
-            case "commit" -> "{\"fired\":" + step.commit() + "}";
+            case "offer" -> isRecording ? TableWords.offer(step.offer()) : step.offerText();
+            case "commit" -> isRecording ? TableWords.fired(step.tryCommit(), true)
+                                         : "{\"fired\":" + step.commit() + "}";
             default -> nothing(step::close);
+        };
+    }
+
+    /** What a step says of a set or a bag, the second time at a prepared location. */
+    private String ofMembers(Step step, String name, List<String> words) {
+        Location at = Location.parse(words.get(0));
+        Element element = name.equals("size") ? null : (Element) Value.parse(words.get(1));
+        if (isRecording)
+            return atPrepared(words.get(0), prepared -> switch (name) {
+                case "size" -> "" + step.size(prepared);
+                case "has" -> "" + step.has(prepared, element);
+                default -> "" + step.countOf(prepared, element);
+            });
+        return switch (name) {
+            case "size" -> "" + step.size(at);
+            case "has" -> "" + step.has(at, element);
+            default -> "" + step.countOf(at, element);
         };
     }
 
@@ -261,12 +261,18 @@ final class ConformanceTests {
             case "answer" -> agent.answer();
             case "peek_at" -> atPrepared(words.get(0), at -> peeked(agent.peek(at)));
             case "learn" -> nothing(() -> agent.learn(agents.get(words.get(0))));
-            case "peek" -> agent.peek(words.get(0));
-            case "fire" -> "{\"fired\":" + agent.fire(words.get(0), words.get(1), words.get(2)) + "}";
+            case "peek" -> {
+                List<Location> places = objects(words.get(0), Location::parse);
+                yield places == null ? agent.peek(words.get(0)) : TableWords.reading(agent.peek(places));
+            }
+            case "fire" -> fire(agent, words);
             case "follow" -> "" + agent.follow();
             case "stands" -> {
-                String stale = agent.stands(words.get(0)).answer();
-                yield stale == null ? "null" : stale;
+                List<Named> reads = objects(words.get(0), TableWords::named);
+                Actor.Reply reply = reads == null ? agent.stands(words.get(0)) : agent.stands(reads);
+                Test.Checks.equal(List.of(reply.isFired(), reply.isStale(), reply.shouldRetry()),
+                        List.of(false, reply.answer() != null, reply.answer() != null));
+                yield reply.orThrow() == 0 ? "null" : "fired";
             }
             case "state" -> stateText(agent.state(), words.get(0));
             case "scan" -> stateText(agent.scan(string(words.get(0))), words.get(1));
@@ -277,26 +283,18 @@ final class ConformanceTests {
         };
     }
 
+    private String fire(Agent agent, List<String> words) {
+        List<Instruction> move = objects(words.get(0), Instruction::parse);
+        List<Named> reads = objects(words.get(1), TableWords::named);
+        List<Scanned> scans = objects(words.get(2), TableWords::scanned);
+        if (move == null || reads == null || scans == null)
+            return "{\"fired\":" + agent.fire(words.get(0), words.get(1), words.get(2)) + "}";
+        return TableWords.fired(scans.isEmpty() ? agent.tryFire(move, reads) : agent.tryFire(move, reads, scans), false);
+    }
+
     private static String stateText(Agent.State state, String number) {
         Test.Checks.equal("" + state.number(), number);
         return state.pairs();
-    }
-
-    /** Whether the answer is the one that is wanted; of an error only what is written is compared. */
-    private static boolean agree(String answer, String wanted) {
-        if (!wanted.startsWith("{\"error\""))
-            return answer.equals(wanted);
-        List<String> members = items("[" + wanted.substring(1, wanted.length() - 1) + "]");
-        List<String> own = items("[" + answer.substring(1, answer.length() - 1) + "]");
-        for (String member : members) {
-            String detail = "\"said\":";
-            boolean isReported = member.startsWith(detail)
-                    ? string(own.get(1).substring(detail.length())).contains(string(member.substring(detail.length())))
-                    : own.contains(member);
-            if (!isReported)
-                return false;
-        }
-        return true;
     }
 
     private static int replayed(Path table, boolean isRecording) throws IOException {
@@ -306,14 +304,19 @@ final class ConformanceTests {
         int times = 1;
         for (String line : Files.readAllLines(table)) {
             number++;
-            List<String> all = items(expanded(line));
+            List<String> all = items(TableWords.expanded(line));
             String name = string(all.get(0));
+            replayer.isOfTexts = name.equals("text");
+            if (replayer.isOfTexts) {
+                name = string(all.get(1));
+                all = all.stream().skip(1).map(it -> it.startsWith("\"") ? string(it) : it).toList();
+            }
             if (name.equals("repeat"))
                 times = Integer.parseInt(all.get(1));
             else if (name.equals("case"))
                 replayer.begin();
             // The journal of agents that record has their reads too.
-            else if (!name.equals("lines") || !isRecording) {
+            else if (!name.equals(isRecording ? "lines" : "recorded")) {
                 for (; times > 0; times--) {
                     String fault = replayer.fault(name, all);
                     if (fault != null)
@@ -332,7 +335,7 @@ final class ConformanceTests {
         boolean isEnd = name.equals("end");
         String answer = answer(name, all.subList(1, all.size() - (isEnd ? 0 : 1)));
         String wanted = isEnd ? "null" : all.get(all.size() - 1);
-        return agree(answer, wanted) ? null : "found " + answer + ", wanted " + wanted;
+        return TableWords.agree(answer, wanted) ? null : "found " + answer + ", wanted " + wanted;
     }
 
     static void all() {

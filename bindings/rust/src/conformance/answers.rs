@@ -45,12 +45,13 @@ fn of_audit(error: &AuditError) -> (&'static str, Vec<u64>) {
     }
 }
 
-/// Returns the code of a call's error; what it is said to be if the table has that as an answer.
-fn of_call(error: &Error) -> Result<(&'static str, Vec<u64>), String> {
+/// Returns the code of a call's error; what it is said to be if the table has that as an answer. A clash of a commit is a conflict.
+fn of_call(call: &str, error: &Error) -> Result<(&'static str, Vec<u64>), String> {
     let clash = |at: &Location, cause: Cause| format!("{{\"clash\":[{},\"{cause:?}\"]}}", at.json());
     Ok(match error {
         Error::Conflict(Conflict::Stale(at)) => return Err(format!("{{\"stale\":{}}}", at.json())),
-        Error::Conflict(Conflict::Clash { at, cause }) | Error::Clash { at, cause } => return Err(clash(at, *cause)),
+        Error::Conflict(Conflict::Clash { at, cause }) if call == "commit" => return Err(clash(at, *cause)),
+        Error::Clash { at, cause } if call != "commit" => return Err(clash(at, *cause)),
         Error::Large(at) => return Err(format!("{{\"large\":{}}}", at.json())),
         Error::Full => ("FULL", vec![]),
         Error::Many(Limit::Places(_)) => ("MANY", vec![]),
@@ -65,7 +66,7 @@ fn of_call(error: &Error) -> Result<(&'static str, Vec<u64>), String> {
         Error::NumberTaken(_) => ("NUMBER", vec![]),
         Error::Missing(number) => ("MISSING", vec![number.get()]),
         Error::OtherStorage => ("OTHER", vec![]),
-        Error::Refused(_) => ("SHAPE", vec![]),
+        Error::Refused(_) | Error::OtherKind { .. } => ("SHAPE", vec![]),
         Error::Unknown(sys::EMPTY) => ("EMPTY", vec![]),
         Error::Unknown(sys::MOVED) => ("MOVED", vec![]),
         Error::Unknown(sys::NO_ANSWER) => ("NO_ANSWER", vec![]),
@@ -74,7 +75,7 @@ fn of_call(error: &Error) -> Result<(&'static str, Vec<u64>), String> {
 }
 
 /// Whether the call was answered so; an answer that can't be in the crate's types is refused by them.
-pub(super) fn matches_wanted(answer: &Answer, wanted: &str) -> bool {
+pub(super) fn matches_wanted(call: &str, answer: &Answer, wanted: &str) -> bool {
     let refusal = match answer {
         Ok(answer) => return read(answer.as_bytes()) == read(wanted.as_bytes()),
         Err(Refusal::Untyped) => {
@@ -83,7 +84,7 @@ pub(super) fn matches_wanted(answer: &Answer, wanted: &str) -> bool {
         Err(refusal) => refusal,
     };
     let (name, numbers) = match refusal {
-        Refusal::Call(error) => match of_call(error) {
+        Refusal::Call(error) => match of_call(call, error) {
             Ok(answer) => answer,
             Err(answer) => return read(answer.as_bytes()) == read(wanted.as_bytes()),
         },
