@@ -31,6 +31,7 @@ asm_slot slots[SLOTS];
 account accounts[SLOTS];
 story stories[STORAGES];
 unsigned opened;
+unsigned refilled;
 
 static unsigned last_seed;
 static unsigned long call_number;
@@ -393,11 +394,24 @@ static void calls_any(void) {
     }
 }
 
+/* One call, after which each slot that holds what it held has it at the same place. */
+static void calls_one(void) {
+    asm_slot was[SLOTS];
+    unsigned kinds[SLOTS];
+    memcpy(was, slots, sizeof was);
+    for (unsigned i = 0; i < SLOTS; i++)
+        kinds[i] = accounts[i].kind;
+    refilled = SLOTS;
+    calls_any();
+    for (unsigned i = 0; i < SLOTS; i++)
+        REQUIRE(i == refilled || accounts[i].kind != kinds[i] || slots[i].at == was[i].at);
+}
+
 int main(int argc, char **argv) {
     last_seed = argc > 1 ? (unsigned)strtoul(argv[1], NULL, 10) : 1;
     unsigned long calls = argc > 2 ? strtoul(argv[2], NULL, 10) : 200000;
     for (call_number = 0; call_number < calls; call_number++) {
-        calls_any();
+        calls_one();
         for (unsigned i = 0; i < SLOTS; i++) {
             REQUIRE(slots[i].full == (accounts[i].kind != NOTHING));
             REQUIRE(asm_depth(ANY(i)) == accounts[i].depth);

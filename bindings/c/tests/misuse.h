@@ -105,6 +105,8 @@ extern asm_slot slots[SLOTS];
 extern account accounts[SLOTS];
 extern story stories[STORAGES];
 extern unsigned opened;
+/* The slot in which the last call began a step, or into which it popped a move, if it did: that may be at another place. */
+extern unsigned refilled;
 
 void require(bool holds, const char *what, const char *file, int line);
 unsigned below(unsigned bound);
@@ -160,6 +162,9 @@ bool have_meaning(unsigned at, unsigned of_step);
 
 /* A slot with a step of the agent's storage, if there is one; at times the slot itself. */
 unsigned fitting(unsigned at, unsigned of_step);
+
+/* A slot of this kind, if there is one; at times the other slot. */
+unsigned some(unsigned kind, unsigned other);
 
 /* The code of a call with two agents of one storage. */
 int32_t code_of_two(unsigned at, unsigned from);

@@ -125,12 +125,39 @@ static void counts_at(unsigned at, unsigned of_step, unsigned of_place) {
         s->has_read[l->place] |= !is_put;
     }
     if (below(2)) {
+        bool has = wanted_count == 0;
         REQUIRE(asm_count_of(ANY(at), ANY(of_step), ANY(of_place), ASM_KIND_NUM, 1, NULL, 0,
                              &count) == wanted);
-        REQUIRE(count == wanted_count);
+        REQUIRE(asm_has(ANY(at), ANY(of_step), ANY(of_place), ASM_KIND_NUM, 1, NULL, 0, &has) ==
+                wanted);
+        REQUIRE(count == wanted_count && has == (count > 0));
     } else {
         REQUIRE(asm_size(ANY(at), ANY(of_step), ANY(of_place), &size) == wanted);
         REQUIRE(size == wanted_size);
+    }
+}
+
+/* Asks whether a function has a value, or counts its values. */
+static void counts_function(unsigned at, unsigned of_step) {
+    static const char *const names[] = {"x", "y", "none", "x\xff"};
+    unsigned name = below(sizeof names / sizeof *names);
+    const uint8_t *bytes = (const uint8_t *)names[name];
+    account *s = &accounts[of_step];
+    bool is_there = false;
+    uint32_t any = 9;
+    uint64_t count = 9;
+    int32_t wanted = step_code(&accounts[at], s, name == 3 ? ASM_SHAPE : ASM_DONE);
+    if (wanted == ASM_DONE) {
+        is_there = (name == 0 && top_of(s).seen.x >= 0) || (name == 1 && top_of(s).seen.y >= 0);
+        s->has_read[X_PLACE] |= name == 0;
+        s->has_read[Y_PLACE] |= name == 1;
+    }
+    if (below(2)) {
+        REQUIRE(asm_any(ANY(at), ANY(of_step), bytes, strlen(names[name]), &any) == wanted);
+        REQUIRE(any == is_there);
+    } else {
+        REQUIRE(asm_count(ANY(at), ANY(of_step), bytes, strlen(names[name]), &count) == wanted);
+        REQUIRE(count == is_there);
     }
 }
 
@@ -224,12 +251,16 @@ static void takes_state(unsigned at, unsigned from) {
     account *a = &accounts[at], *b = &accounts[from];
     int32_t wanted = code_of_two(at, from);
     unsigned version = a->version;
+    uint32_t seen[2] = {asm_seen(ANY(at)), asm_seen(ANY(from))}, won = asm_won(ANY(at));
+    uint64_t misses[2] = {asm_misses(ANY(at)), asm_misses(ANY(from))};
     REQUIRE(asm_take_state(ANY(at), ANY(from)) == wanted);
+    REQUIRE(asm_misses(ANY(at)) == misses[0] && asm_misses(ANY(from)) == misses[1]);
+    REQUIRE(asm_seen(ANY(from)) == seen[1] && asm_won(ANY(at)) == won);
+    REQUIRE(asm_seen(ANY(at)) == (wanted == ASM_DONE && seen[1] > seen[0] ? seen[1] : seen[0]));
     if (wanted != ASM_DONE || b->version <= version)
         return;
     a->version = b->version;
     b->version = version;
-    REQUIRE(asm_seen(ANY(at)) >= a->version);
 }
 
 /* Does the move on what is seen: the text of a clash, if there is one. */
@@ -296,12 +327,16 @@ static void pops_into(unsigned of_step, unsigned of_move) {
     REQUIRE(asm_pop_move(ANY(of_step), ANY(of_move)) == wanted);
     if (wanted != ASM_DONE)
         return;
+    /* What two of its moves change is named, as the two may amount to nothing. */
+    const layer before = s->depth > 1 ? s->layers[s->depth - 2] : (layer){0};
+    s->has_read[X_PLACE] |= top_of(s).raising > before.raising + 1;
+    s->has_read[S_PLACE] |= top_of(s).changing > before.changing + 1;
     *m = (account){.kind = MOVE, .move = top_of(s).own};
+    refilled = of_move;
     s->depth--;
 }
 
-/* A slot of this kind, if there is one; at times the slot itself. */
-static unsigned some(unsigned kind, unsigned other) {
+unsigned some(unsigned kind, unsigned other) {
     unsigned from = below(SLOTS), tries = below(8) ? SLOTS : 0;
     for (unsigned i = from; i < from + tries; i++)
         if (accounts[i % SLOTS].kind == kind)
@@ -328,7 +363,7 @@ void calls_any_plain(unsigned at, unsigned other) {
     switch (below(12)) {
     case 11:
         if (have_meaning(at, of_step))
-            counts_at(at, of_step, some(LOCATION, other));
+            below(3) ? counts_at(at, of_step, some(LOCATION, other)) : counts_function(at, of_step);
         break;
     case 10:
         unites(some(MOVE, other), below(2) ? other : some(MOVE, at));

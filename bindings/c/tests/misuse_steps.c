@@ -125,6 +125,7 @@ static void begins(unsigned at, unsigned of_step) {
     if (wanted != ASM_DONE)
         return;
     a->version = number;
+    refilled = of_step;
     *s = (account){.kind = STEP, .storage = a->storage, .version = number};
 }
 
@@ -266,7 +267,7 @@ void commits(unsigned at, unsigned of_step) {
     int32_t wanted = both(a, s);
     if (wanted == ASM_DONE)
         wanted = commit_answer(s, of, &w);
-    REQUIRE(asm_commit(ANY(at), ANY(of_step), &numbers) == wanted);
+    REQUIRE((below(2) ? asm_commit_recorded : asm_commit)(ANY(at), ANY(of_step), &numbers) == wanted);
     REQUIRE(numbers.fired == (wanted == ASM_DONE ? of->moves + 1 : 0));
     REQUIRE(numbers.from == 0 && numbers.to == 0);
     if (wanted == ASM_EMPTY)
@@ -384,7 +385,9 @@ unsigned fitting(unsigned at, unsigned of_step) {
     return of_step;
 }
 
+/* A call of an agent and a step, which another agent of its storage may have begun. */
 static void calls_any_of_both(unsigned at, unsigned other) {
+    at = below(4) ? some(AGENT, at) : at;
     unsigned call = below(16), of_step = fitting(at, other);
     if (!have_meaning(at, of_step))
         return;

@@ -1,5 +1,5 @@
-/* Calls without text: operands that make no instruction, and slots of other kinds. Values, gathered moves, popped and united ones
- * are in bindings/conformance/gathered.jsonl. */
+/* Calls without text: operands that make no instruction, or are no element. Values, gathered moves, popped and united ones are in
+ * bindings/conformance/gathered.jsonl, elements and sizes in steps.jsonl, and slots of other kinds in misuse.c. */
 #include "plain.h"
 
 /* Verbs, operands and amounts that don't exist, with a move that is empty and one that isn't. */
@@ -62,61 +62,6 @@ static void order_of_codes(void) {
         REQUIRE(is_same_slot(slot_of(of), was));
     }
     asm_free_move(&most);
-    end_all();
-}
-
-/* Each call on three slots of which one holds nothing of its kind, or of which two are one. */
-static void on_nothing(void *agent, void *of_step, void *third) {
-    asm_slot was[3] = {slot_of(agent), slot_of(of_step), slot_of(third)};
-    asm_value value = {9, 9};
-    uint32_t number = 9;
-    if (agent != &agents[0] || of_step != &step || third != &at[X])
-        ANSWERS(ASM_EMPTY, asm_get_at(agent, of_step, third, &value, OUT));
-    if (agent != &agents[0] || of_step != &step || third != &move) {
-        ANSWERS(ASM_EMPTY, asm_push_move(agent, of_step, third, OUT));
-        ANSWERS(ASM_EMPTY, asm_extend_move(agent, of_step, third, OUT));
-    }
-    if (agent != &agents[0] || third != &at[X]) {
-        ANSWERS(ASM_EMPTY, asm_peek_at(agent, third, &number, &value, OUT));
-        REQUIRE(number == 0 && is_value(value, 0, 0));
-    }
-    if (was[0].full && agent != &move)
-        REQUIRE(asm_instruct(agent, third, ASM_PUT, ASM_KIND_NUM, 1, NULL, 0, 0) == ASM_TAKEN);
-    else if (third != &at[X])
-        REQUIRE(asm_instruct(agent, third, ASM_PUT, ASM_KIND_NUM, 1, NULL, 0, 0) == ASM_EMPTY);
-    if (was[2].full)
-        REQUIRE(asm_location(TEXT("['x']"), third) == ASM_TAKEN);
-    REQUIRE(asm_pop_move(of_step, third) == (was[2].full && third != &move ? ASM_TAKEN
-                                             : of_step != &step            ? ASM_EMPTY
-                                                                           : ASM_NO_PUSH));
-    REQUIRE(is_same_slot(slot_of(agent), was[0]) && is_same_slot(slot_of(of_step), was[1]) &&
-            is_same_slot(slot_of(third), was[2]));
-}
-
-static void other_slots(void) {
-    struct asm_location empty = {0};
-    uint32_t number = 9;
-    begin_all();
-    does(X, ASM_INC, ASM_KIND_NUM, 1, "", 0);
-    void *slots[] = {&empty, &storage, &agents[0], &step, &at[X], &move};
-    enum { COUNT = sizeof slots / sizeof *slots };
-    for (size_t i = 0; i < COUNT; i++)
-        for (size_t k = 0; k < COUNT; k++)
-            for (size_t m = 0; m < COUNT; m++)
-                on_nothing(slots[i], slots[k], slots[m]);
-    for (size_t i = 4; i < COUNT; i++) {
-        REQUIRE(asm_begin(&agents[0], slots[i], &number) == ASM_TAKEN && number == 0);
-        REQUIRE(asm_begin(slots[i], &step, &number) == ASM_EMPTY);
-        REQUIRE(asm_give(&storage, slots[i]) == ASM_EMPTY &&
-                asm_give(slots[i], &agents[0]) == ASM_EMPTY);
-        REQUIRE(asm_depth(slots[i]) == 0 && asm_pop(slots[i]) == ASM_EMPTY);
-        ANSWERS(ASM_EMPTY, asm_offer(slots[i], OUT));
-    }
-    REQUIRE(asm_location(TEXT("['x'"), &empty) == ASM_NOT_JSON && !empty.slot.full);
-    REQUIRE(asm_location(NULL, 0, &empty) == ASM_NOT_JSON && !empty.slot.full);
-    REQUIRE(asm_location(TEXT("[['x']]"), &empty) == ASM_SHAPE && !empty.slot.full);
-    REQUIRE(grows(true) == ASM_DONE);
-    gets(X, ASM_KIND_NUM, 8, "");
     end_all();
 }
 
@@ -188,57 +133,41 @@ static void no_values(void) {
     end_all();
 }
 
-/* Neither slot changes, whatever the two hold. */
-static void not_united(struct asm_move *first, struct asm_move *second, int32_t code) {
-    asm_slot was[2] = {first->slot, second->slot};
-    REQUIRE(asm_unite(first, second) == code);
-    REQUIRE(is_same(*first, was[0]) && is_same(*second, was[1]));
-}
-
-static void united_slots(void) {
-    struct asm_move empty = {0}, other = {0};
+/* What is no element is counted nowhere, and nothing is tracked. */
+static void no_elements(void) {
+    static const struct {
+        int32_t code, kind;
+        int64_t number;
+        const char *text;
+    } rows[] = {
+        {ASM_OPERAND, ASM_KIND_UNDEF, 1, ""},           {ASM_OPERAND, ASM_KIND_UNDEF, 0, "u"},
+        {ASM_OPERAND, ASM_KIND_BOOL, 2, ""},            {ASM_OPERAND, ASM_KIND_NUM, 1, "1"},
+        {ASM_OPERAND, ASM_KIND_TEXT, 1, "t"},           {ASM_OPERAND, ASM_KIND_LIST, 1, "{'list':[]}"},
+        {ASM_OPERAND, ASM_KIND_SET, 0, "{'set':[]}"},   {ASM_OPERAND, ASM_KIND_BAG, 0, "{'bag':[]}"},
+        {ASM_OPERAND, 7, 0, ""},                        {ASM_OPERAND, -1, 0, ""},
+        {ASM_NOT_JSON, ASM_KIND_LIST, 0, ""},           {ASM_SHAPE, ASM_KIND_LIST, 0, "{'set':[]}"},
+        {ASM_SHAPE, ASM_KIND_TEXT, 0, "\xc3"},
+    };
     begin_all();
-    /* A slot without a move holds one afterwards, and the other slot is unchanged. */
-    REQUIRE(asm_unite(&other, &empty) == ASM_DONE && other.slot.full && !empty.slot.full);
-    asm_slot was = other.slot;
-    REQUIRE(asm_unite(&empty, &other) == ASM_DONE && empty.slot.full && is_same(other, was));
-    asm_free_move(&other);
-    asm_free_move(&empty);
-    does(X, ASM_INC, ASM_KIND_NUM, 1, "", 0);
-    void *others[] = {&storage, &agents[0], &step, &at[X]};
-    for (size_t i = 0; i < sizeof others / sizeof *others; i++) {
-        not_united(others[i], &move, ASM_TAKEN);
-        not_united(others[i], &empty, ASM_TAKEN);
-        not_united(others[i], others[(i + 1) % 4], ASM_TAKEN);
-        not_united(others[i], others[i], ASM_TAKEN);
-        not_united(&move, others[i], ASM_EMPTY);
-        not_united(&empty, others[i], ASM_EMPTY);
+    for (size_t i = 0; i < sizeof rows / sizeof *rows; i++) {
+        uint32_t count = 99;
+        bool has = true;
+        const char *text = json(rows[i].text);
+        const uint8_t *element = *text ? bytes(text) : NULL;
+        size_t len = strlen(text);
+        REQUIRE(asm_count_of(&agents[0], &step, &at[S], rows[i].kind, rows[i].number, element, len, &count) == rows[i].code);
+        REQUIRE(asm_has(&agents[0], &step, &at[S], rows[i].kind, rows[i].number, element, len, &has) == rows[i].code);
+        REQUIRE(count == 0 && !has);
     }
-    not_united(&move, &move, ASM_EMPTY);
-    not_united(&empty, &empty, ASM_EMPTY);
-    REQUIRE(grows(true) == ASM_DONE);
-    gets(X, ASM_KIND_NUM, 8, "");
-    end_all();
-}
-
-/* Without room for its text a peek at a location returns the room alone. */
-static void peeks_without_room(void) {
-    asm_value value = {9, 9};
-    uint32_t number = 9;
-    size_t written = 9;
-    begin_all();
-    REQUIRE(asm_peek_at(&agents[0], &at[T], &number, &value, NULL, 0, &written) == ASM_SMALL);
-    REQUIRE(written == 3 && number == 0 && is_value(value, 0, 0));
+    WRITES(ASM_DONE, "{'fire':[],'reads':[]}", asm_offer(&step, OUT));
     end_all();
 }
 
 int main(void) {
-    peeks_without_room();
     out_of_range();
     order_of_codes();
-    other_slots();
     no_values();
-    united_slots();
+    no_elements();
     puts("passed");
     return 0;
 }

@@ -143,37 +143,6 @@ static int32_t commits(void) {
     return told[PLAIN].code;
 }
 
-/* Moves and extensions, a rival's move, and what a commit answers. */
-static void each_known(void) {
-    static const struct {
-        const char *first, *second, *rival;
-        int32_t wanted;
-    } rows[] = {
-        /* An increment of nothing, and increments that come to nothing, want a number. */
-        {"[['inc',['n'],0]]", "[['put',['u'],1]]", "[['put',['n'],'a']]", ASM_CLASH},
-        {"[['inc',['n'],2],['inc',['n'],-2]]", "[['put',['u'],1]]", "[['put',['n'],'a']]",
-         ASM_CLASH},
-        {"[['put',['u'],1]]", "[['inc',['n'],0]]", "[['put',['n'],'a']]", ASM_CLASH},
-        {"[['inc',['n'],0]]", "[['put',['u'],1]]", "[['put',['n'],5]]", ASM_DONE},
-        /* The two that change one location depend on it. */
-        {"[['inc',['n'],2]]", "[['inc',['n'],-2]]", "[['put',['n'],'a']]", ASM_STALE},
-        {"[['inc',['n'],2]]", "[['inc',['n'],-2]]", "[['put',['t'],'a']]", ASM_DONE},
-        /* What one of them adds doesn't. */
-        {"[['add',['s'],3]]", "[['put',['u'],1]]", "[['add',['s'],4]]", ASM_DONE},
-        {"[['bagremove',['b'],'e',1]]", "[['put',['u'],1]]", "[['bagremove',['b'],'e',2]]",
-         ASM_CLASH},
-    };
-    for (size_t i = 0; i < sizeof rows / sizeof *rows; i++) {
-        open_sides(8);
-        begin_steps();
-        REQUIRE(plays(rows[i].first, true) == ASM_DONE && plays(rows[i].second, false) == ASM_DONE);
-        pops_again(1);
-        rivals_fire(rows[i].rival);
-        REQUIRE(commits() == rows[i].wanted);
-        free_sides();
-    }
-}
-
 static uint32_t below(uint32_t count) {
     static uint64_t state = 20261130;
     state ^= state << 13;
@@ -237,7 +206,6 @@ static int32_t random_step(void) {
 
 int main(void) {
     uint32_t done = 0, stale = 0, clash = 0;
-    each_known();
     open_sides(4 * ROUNDS);
     for (int round = 0; round < ROUNDS; round++) {
         int32_t code;

@@ -1,5 +1,5 @@
-/* Tests of the sentences that say where and why a text is refused, as far as the tables of bindings/conformance don't have them,
- * and of what each code means. */
+/* What each code means. The sentences that say where and why a text is refused are in bindings/conformance/journals.jsonl, but
+ * for the one on nesting, for which packages have their own words. */
 #include "tests.h"
 
 /* The call writes this text; with a byte of room less, and without room, it writes nothing and returns the length. */
@@ -17,74 +17,6 @@
             free(out);                                                                             \
         }                                                                                          \
     } while (0)
-
-static void explained(int32_t form, const char *text, const char *said) {
-    SAYS(said, asm_explain(form, bytes(text), strlen(text), OUT));
-}
-
-/* Of each form a text that is accepted, and texts that are cut off, that are no JSON, that have another shape, and with a fault
- * in a part. */
-static const struct {
-    int32_t form;
-    const char *text, *said;
-} sentences_of_forms[] = {
-    {ASM_FORM_LOCATIONS, "[['x']]", ""},
-    {ASM_FORM_LOCATIONS, "[['x'],", "not JSON: cut off after byte 7"},
-    {ASM_FORM_LOCATIONS, "[['x'],]", "not JSON at byte 8"},
-    {ASM_FORM_LOCATIONS, "{}", "the locations are an array"},
-    {ASM_FORM_LOCATIONS, "[7]", "location 1: a location is an array of a name and at most 8 arguments"},
-    {ASM_FORM_MOVE, "{'fire':[['put',['x'],1]],'reads':[]}", ""},
-    {ASM_FORM_MOVE, "{'fire':[['put',['x'],1]]", "not JSON: cut off after byte 25"},
-    {ASM_FORM_MOVE, "[['x'],]", "not JSON at byte 8"},
-    {ASM_FORM_MOVE, "[]", "a move is an object with the members fire and reads"},
-    {ASM_FORM_MOVE, "{'fire':[['put',['x'],1]],'reads':[7]}", "read 1: a read is an array of a location and a number"},
-    {ASM_FORM_STATE, "[[['x'],1]]", ""},
-    {ASM_FORM_STATE, "", "not JSON: cut off after byte 0"},
-    {ASM_FORM_STATE, "[['x'],]", "not JSON at byte 8"},
-    {ASM_FORM_STATE, "{}", "a state is an array of pairs"},
-    {ASM_FORM_STATE, "[[['x'],1],[['x'],2]]", "a location stands twice"},
-    {ASM_FORM_STATE, "[7]", "pair 1: a pair is an array of a location and its value"},
-    {ASM_FORM_EVENT, "{'agent':0,'call':{'read':[]},'reply':{'number':0,'values':[]}}", ""},
-    {ASM_FORM_EVENT, "[", "not JSON: cut off after byte 1"},
-    {ASM_FORM_EVENT, "[1,\n2,\n}", "not JSON at byte 8"},
-    {ASM_FORM_EVENT, "{}", "an event is an object with the members agent, call and reply"},
-    {ASM_FORM_EVENT, "{'agent':0,'call':{'read':[7]},'reply':{'number':0,'values':[]}}",
-     "location 1: a location is an array of a name and at most 8 arguments"},
-    {ASM_FORM_SCRIPT, "{'agents':[],'init':[]}", ""},
-    {ASM_FORM_SCRIPT, "{\n'agents'", "not JSON: cut off after byte 10, in line 2"},
-    {ASM_FORM_SCRIPT, "[1,\n2,\n}", "not JSON at byte 8, in line 3"},
-    {ASM_FORM_SCRIPT, "[]", "a script is an object with the members agents and init"},
-    {ASM_FORM_SCRIPT, "{'agents':7,'init':[]}", "the agents are an array"},
-    {ASM_FORM_SCRIPT, "{'agents':[],'init':[[['x'],1],[['x'],2]]}", "init pair 1: its location stands twice"},
-};
-
-static void sentences(void) {
-    static char text[32 * LONGEST];
-    for (size_t i = 0; i < sizeof sentences_of_forms / sizeof *sentences_of_forms; i++)
-        explained(sentences_of_forms[i].form, json(sentences_of_forms[i].text), sentences_of_forms[i].said);
-    explained(ASM_FORM_LOCATIONS,
-              json("[['x',{'list':[{'list':[{'list':[{'list':[{'list':[{'list':[{'list':[{'list':[{'list':[]}"
-                   "]}]}]}]}]}]}]}]}]]"),
-              "location 1: lists nest at most 8 deep");
-    char *at = text + sprintf(text, "{\"fire\":[");
-    for (int i = 0; i < 4097; i++)
-        at += sprintf(at, "%s[\"put\",[\"x\"],1]", i ? "," : "");
-    sprintf(at, "],\"reads\":[]}");
-    explained(ASM_FORM_MOVE, text, "4,097 instructions, at most 4,096");
-    for (int32_t form = -1; form <= 5; form += 6)
-        ANSWERS(ASM_NO_FORM, asm_explain(form, bytes("[]"), 2, OUT));
-}
-
-/* Of two texts the first that is refused is judged; bytes that aren't JSON are refused as such. */
-static void pairs_of_texts(void) {
-    const char *state = "[[['x'],1]]", *wrong = "[['put',['x']]]", *cut = "[['put'";
-    ANSWERS(ASM_NOT_JSON, asm_aggregate(NULL, 0, TEXT(wrong), OUT));
-    ANSWERS(ASM_SHAPE, asm_aggregate(TEXT("[[['x'],1],[['x'],2]]"), NULL, 0, OUT));
-    ANSWERS(ASM_NOT_JSON, asm_aggregate(TEXT(state), NULL, 0, OUT));
-    ANSWERS(ASM_NOT_JSON, asm_compose(NULL, 0, TEXT(wrong), OUT));
-    ANSWERS(ASM_SHAPE, asm_compose(TEXT(wrong), TEXT(cut), OUT));
-    ANSWERS(ASM_NOT_JSON, asm_compose(TEXT("[]"), TEXT(cut), OUT));
-}
 
 /* What codes mean. */
 static const struct meaning {
@@ -145,6 +77,13 @@ static void texts_of_codes(void) {
     uint8_t out[128];
     size_t written;
     REQUIRE(asm_version() == FOLUGBEN_VERSION);
+    for (int32_t form = -1; form <= 5; form += 6)
+        ANSWERS(ASM_NO_FORM, asm_explain(form, bytes("[]"), 2, OUT));
+    SAYS("location 1: lists nest at most 8 deep",
+         asm_explain(ASM_FORM_LOCATIONS,
+                     TEXT("[['x',{'list':[{'list':[{'list':[{'list':[{'list':[{'list':[{'list':[{'list':[{'list':[]}"
+                          "]}]}]}]}]}]}]}]}]]"),
+                     OUT));
     for (size_t i = 0; i < sizeof meanings / sizeof *meanings; i++)
         SAYS(meanings[i].said, asm_error_text(meanings[i].code, OUT));
     for (int32_t code = -2; code < 50; code++) {
@@ -155,8 +94,6 @@ static void texts_of_codes(void) {
 }
 
 int main(void) {
-    sentences();
-    pairs_of_texts();
     texts_of_codes();
     puts("passed");
     return 0;

@@ -1,25 +1,9 @@
-/* Tests of each code of each call, and of what no caller must do: each call must return a code. */
-#include "folugben.h"
-
-#include <inttypes.h>
-#include <stdio.h>
-#include <stdlib.h>
-#include <string.h>
-
-#define REQUIRE(holds) require((holds), #holds, __LINE__)
+/* Tests of what no caller must do, each of which must return a code. Slots that hold something else are in misuse.c. */
+#include "tests.h"
 
 enum { ROOM = 65536 };
 
-static void require(bool holds, const char *what, int line) {
-    if (!holds) {
-        fprintf(stderr, "line %d: %s\n", line, what);
-        exit(1);
-    }
-}
-
-static const uint8_t *bytes(const char *text) { return (const uint8_t *)text; }
-
-static int32_t open_with(const char *init, uint32_t capacity, struct asm_storage *storage) {
+static int32_t open_of(const char *init, uint32_t capacity, struct asm_storage *storage) {
     return asm_open(bytes(init), strlen(init), capacity, storage);
 }
 
@@ -35,55 +19,11 @@ static int32_t fire_of(struct asm_agent *agent, const char *call) {
     return code;
 }
 
-/* Each call except asm_open, asm_check and asm_replay on two slots that hold nothing of their
- * kind. */
-static void on_nothing(struct asm_storage *storage, struct asm_agent *agent) {
-    asm_slot full = storage->slot, was = agent->slot;
-    struct asm_agent free_slot = {0};
-    uint8_t out[8];
-    size_t written;
-    uint32_t number;
-    REQUIRE(asm_agent(storage, 0, &free_slot) == ASM_EMPTY && !free_slot.slot.full);
-    REQUIRE(asm_agents(storage, &free_slot, 1) == ASM_EMPTY && !free_slot.slot.full);
-    REQUIRE(read_of(agent, "[]") == ASM_EMPTY &&
-            fire_of(agent, "{\"fire\":[],\"reads\":[]}") == ASM_EMPTY);
-    REQUIRE(asm_answer(agent, out, sizeof out, &written) == ASM_EMPTY && written == 0);
-    REQUIRE(asm_learn(agent, &free_slot) == ASM_EMPTY && asm_learn(&free_slot, agent) == ASM_EMPTY);
-    REQUIRE(asm_learn(agent, agent) == ASM_EMPTY);
-    REQUIRE(asm_seen(agent) == 0 && asm_won(agent) == 0 && asm_misses(agent) == 0);
-    REQUIRE(asm_give(storage, agent) == ASM_EMPTY &&
-            asm_give(storage, (void *)storage) == ASM_EMPTY);
-    REQUIRE(asm_moves(storage, &number) == ASM_EMPTY && number == 0);
-    REQUIRE(asm_close(storage, &number) == ASM_EMPTY && number == 0);
-    REQUIRE(asm_journal(storage, out, sizeof out, &written) == ASM_EMPTY && written == 0);
-    REQUIRE(storage->slot.full == full.full && storage->slot.at == full.at &&
-            agent->slot.full == was.full && agent->slot.at == was.at);
-}
-
-static void empty_slots(void) {
-    struct asm_storage storage = {0};
-    struct asm_agent agent = {0}, one = {0};
-    on_nothing(&storage, &agent);
-    on_nothing((void *)&one, &one);
-    REQUIRE(open_with("[]", 4, &storage) == ASM_DONE && asm_agent(&storage, 0, &agent) == ASM_DONE);
-    on_nothing((void *)&agent, (void *)&storage);
-    REQUIRE(asm_agent(&storage, 1, (void *)&storage) == ASM_TAKEN &&
-            asm_agents(&storage, (void *)&storage, 1) == ASM_TAKEN);
-    REQUIRE(asm_learn(&agent, &agent) == ASM_EMPTY &&
-            asm_give(&storage, (void *)&storage) == ASM_EMPTY);
-    REQUIRE(read_of(&agent, "[]") == ASM_DONE);
-    asm_free_storage(&storage);
-    REQUIRE(read_of(&agent, "[]") == ASM_DONE);
-    asm_free_agent(&agent);
-    on_nothing(&storage, &agent);
-    asm_free_agent(&agent);
-}
-
 static void full_slots(void) {
     struct asm_storage storage = {0};
     struct asm_agent many[257] = {0};
-    REQUIRE(open_with("[]", 4, &storage) == ASM_DONE && open_with("[]", 4, &storage) == ASM_TAKEN);
-    REQUIRE(open_with("[", 0, &storage) == ASM_TAKEN);
+    REQUIRE(open_of("[]", 4, &storage) == ASM_DONE && open_of("[]", 4, &storage) == ASM_TAKEN);
+    REQUIRE(open_of("[", 0, &storage) == ASM_TAKEN);
     REQUIRE(asm_agents(&storage, many, 257) == ASM_AGENTS && !many[0].slot.full);
     REQUIRE(asm_agents(&storage, many, 256) == ASM_DONE && many[255].slot.full && !many[256].slot.full);
     REQUIRE(asm_agent(&storage, 0, &many[0]) == ASM_TAKEN);
@@ -93,28 +33,35 @@ static void full_slots(void) {
     asm_free_storage(&storage);
 }
 
-/* A number is handed out once, also if its agent is freed or returned, and one that a refused
- * call asked for stays free. */
-static void numbers(void) {
-    struct asm_storage storage = {0}, other = {0};
-    struct asm_agent a[3] = {0};
-    REQUIRE(open_with("[]", 4, &storage) == ASM_DONE && open_with("[]", 4, &other) == ASM_DONE);
-    REQUIRE(asm_agent(&storage, 1, &a[0]) == ASM_DONE);
-    REQUIRE(asm_agent(&storage, 1, &a[1]) == ASM_NUMBER && !a[1].slot.full);
-    REQUIRE(asm_agents(&storage, &a[1], 2) == ASM_NUMBER && !a[1].slot.full && !a[2].slot.full);
-    REQUIRE(asm_agent(&storage, 1, &a[0]) == ASM_TAKEN &&
-            asm_agent((void *)&a[0], 1, &a[1]) == ASM_EMPTY);
-    asm_free_agent(&a[0]);
-    REQUIRE(asm_agent(&storage, 1, &a[0]) == ASM_NUMBER);
-    REQUIRE(asm_agents(&storage, a, 1) == ASM_DONE && asm_give(&storage, &a[0]) == ASM_DONE);
-    REQUIRE(asm_agent(&storage, 0, &a[0]) == ASM_NUMBER &&
-            asm_agents(&storage, a, 1) == ASM_NUMBER);
-    REQUIRE(asm_agents(&storage, NULL, 0) == ASM_DONE);
-    REQUIRE(asm_agent(&storage, 255, &a[0]) == ASM_DONE && asm_agents(&other, &a[1], 2) == ASM_DONE);
-    asm_free_storage(&storage);
-    asm_free_storage(&other);
-    for (size_t i = 0; i < 3; i++)
-        asm_free_agent(&a[i]);
+/* The same of an agent's polls and its step, and names that aren't UTF-8. */
+static void step_of_no_bytes(struct asm_agent *agent) {
+    struct asm_step step = {0};
+    struct asm_location at = {0};
+    uint8_t out[2];
+    size_t written;
+    uint32_t number;
+    REQUIRE(asm_begin(agent, &step, &number) == ASM_DONE);
+    int32_t codes[] = {
+        asm_peek(agent, NULL, 0, NULL, 0, &written),
+        asm_stands(agent, NULL, 0, NULL, 0, &written),
+        asm_get(agent, &step, NULL, 0, NULL, 0, &written),
+        asm_see(agent, &step, NULL, 0, NULL, 0, &written),
+        asm_push(agent, &step, NULL, 0, NULL, 0, &written),
+        asm_extend(agent, &step, NULL, 0, NULL, 0, &written),
+        asm_location(NULL, 0, &at),
+        asm_aggregate(bytes("[]"), 2, NULL, 0, NULL, 0, &written),
+        asm_aggregate(NULL, 0, bytes("7"), 1, NULL, 0, &written),
+        asm_compose(bytes("[]"), 2, NULL, 0, NULL, 0, &written),
+        asm_compose(NULL, 0, bytes("7"), 1, NULL, 0, &written),
+    };
+    for (size_t i = 0; i < sizeof codes / sizeof *codes; i++)
+        REQUIRE(codes[i] == ASM_NOT_JSON);
+    REQUIRE(written == 0 && !at.slot.full);
+    REQUIRE(asm_scan(agent, NULL, 0, &number, out, 2, &written) == ASM_DONE && written == 2);
+    REQUIRE(asm_step_scan(agent, &step, NULL, 0, out, 2, &written) == ASM_DONE && written == 2);
+    REQUIRE(asm_scan(agent, bytes("\xed\xa0\xbd"), 3, &number, out, 2, &written) == ASM_SHAPE && written == 0);
+    REQUIRE(asm_step_scan(agent, &step, bytes("y\xc3"), 2, out, 2, &written) == ASM_SHAPE && written == 0);
+    asm_free_step(&step);
 }
 
 static void no_bytes(void) {
@@ -125,10 +72,13 @@ static void no_bytes(void) {
     uint64_t calls, line;
     uint32_t number;
     REQUIRE(asm_open(NULL, 0, 4, &storage) == ASM_NOT_JSON && !storage.slot.full);
-    REQUIRE(open_with("[]", 4, &storage) == ASM_DONE && asm_agent(&storage, 0, &agent) == ASM_DONE);
+    REQUIRE(open_of("[]", 4, &storage) == ASM_DONE && asm_agent(&storage, 0, &agent) == ASM_DONE);
     REQUIRE(asm_agents(&storage, NULL, 0) == ASM_DONE);
     REQUIRE(asm_read(&agent, NULL, 0) == ASM_NOT_JSON &&
             asm_try_fire(&agent, NULL, 0, &numbers) == ASM_NOT_JSON);
+    step_of_no_bytes(&agent);
+    REQUIRE(asm_try_fire_over(&agent, bytes("{\"read\":[]}"), 11, bytes("["), 1, &numbers) == ASM_SHAPE);
+    REQUIRE(asm_try_fire_over(&agent, bytes("{\"fire\":[],\"reads\":[]}"), 22, NULL, 0, &numbers) == ASM_NOT_JSON);
     REQUIRE(asm_answer(&agent, NULL, 0, &written) == ASM_NO_ANSWER && read_of(&agent, "[]") == ASM_DONE);
     REQUIRE(asm_answer(&agent, NULL, 0, &written) == ASM_SMALL &&
             written == strlen("{\"number\":0,\"values\":[]}"));
@@ -163,12 +113,12 @@ static void garbage(void) {
                            "{\"fire\":[],\"reads\":[7]}"};
     struct asm_storage storage = {0}, other = {0};
     struct asm_agent agent = {0};
-    REQUIRE(open_with("[]", 4, &storage) == ASM_DONE && asm_agent(&storage, 0, &agent) == ASM_DONE);
+    REQUIRE(open_of("[]", 4, &storage) == ASM_DONE && asm_agent(&storage, 0, &agent) == ASM_DONE);
     for (size_t i = 0; i < sizeof texts / sizeof *texts; i++) {
         size_t len = strlen(texts[i]), written;
         uint64_t calls, line;
         uint32_t moves;
-        int32_t codes[] = {open_with(texts[i], 4, &other), read_of(&agent, texts[i]),
+        int32_t codes[] = {open_of(texts[i], 4, &other), read_of(&agent, texts[i]),
                            fire_of(&agent, texts[i])};
         for (size_t k = 0; k < 3; k++)
             REQUIRE(codes[k] == ASM_NOT_JSON || codes[k] == ASM_SHAPE);
@@ -181,29 +131,29 @@ static void garbage(void) {
     char deep[400];
     memset(deep, '[', sizeof deep - 1);
     deep[sizeof deep - 1] = 0;
-    REQUIRE(open_with(deep, 4, &other) == ASM_NOT_JSON && read_of(&agent, deep) == ASM_NOT_JSON);
+    REQUIRE(open_of(deep, 4, &other) == ASM_NOT_JSON && read_of(&agent, deep) == ASM_NOT_JSON);
     REQUIRE(asm_seen(&agent) == 0 && !other.slot.full);
     asm_free_agent(&agent);
     asm_free_storage(&storage);
 }
 
-/* Agents of two storages with the same opening state and the same moves. */
-static void two_storages(void) {
-    struct asm_storage s[2] = {0};
-    struct asm_agent a[2] = {0};
-    uint32_t number;
-    for (size_t i = 0; i < 2; i++) {
-        REQUIRE(open_with("[[[\"x\"],1]]", 4, &s[i]) == ASM_DONE &&
-                asm_agent(&s[i], 0, &a[i]) == ASM_DONE);
-        REQUIRE(fire_of(&a[i], "{\"fire\":[],\"reads\":[]}") == ASM_DONE);
-    }
-    REQUIRE(asm_learn(&a[0], &a[1]) == ASM_OTHER && asm_give(&s[0], &a[1]) == ASM_OTHER &&
-            a[1].slot.full);
-    REQUIRE(asm_close(&s[0], &number) == ASM_MISSING && number == 1);
-    REQUIRE(asm_give(&s[1], &a[1]) == ASM_DONE && !a[1].slot.full);
-    REQUIRE(asm_close(&s[1], &number) == ASM_DONE && asm_give(&s[0], &a[0]) == ASM_DONE);
-    asm_free_storage(&s[0]);
-    asm_free_storage(&s[1]);
+/* A journal that isn't legal is traced too, with the right answer beside the wrong one. */
+static void illegal(void) {
+    static const char text[] = "{\"agents\":1,\"capacity\":2,\"events\":2,\"init\":[],\"version\":2}\n"
+                               "{\"agent\":0,\"call\":{\"fire\":[],\"reads\":[]},\"reply\":{\"fired\":1}}\n"
+                               "{\"agent\":0,\"call\":{\"read\":[]},\"reply\":{\"number\":0,\"values\":[]}}\n";
+    static const char trace[] =
+        "{\"agents\":1,\"capacity\":2,\"events\":2,\"init\":[],\"trace\":1}\n"
+        "{\"agent\":0,\"call\":{\"fire\":[],\"reads\":[]},\"event\":0,\"reply\":{\"fired\":1},\"updates\":[]}\n"
+        "{\"agent\":0,\"call\":{\"read\":[]},\"event\":1,\"reply\":{\"number\":0,\"values\":[]},"
+        "\"right\":{\"differs\":[],\"number\":1}}\n";
+    uint8_t out[sizeof trace];
+    size_t written = 9;
+    uint64_t line = 9;
+    REQUIRE(asm_trace(bytes(text), strlen(text), out, strlen(trace) - 1, &written, &line) == ASM_SMALL);
+    REQUIRE(written == strlen(trace) && line == 0);
+    REQUIRE(asm_trace(bytes(text), strlen(text), out, sizeof out, &written, &line) == ASM_DONE);
+    REQUIRE(written == strlen(trace) && line == 0 && !memcmp(out, trace, written));
 }
 
 static void ends(void) {
@@ -213,7 +163,7 @@ static void ends(void) {
     size_t len, written;
     uint64_t calls, line;
     uint32_t number;
-    REQUIRE(open_with("[]", 4, &storage) == ASM_DONE && asm_agents(&storage, a, 3) == ASM_DONE);
+    REQUIRE(open_of("[]", 4, &storage) == ASM_DONE && asm_agents(&storage, a, 3) == ASM_DONE);
     REQUIRE(asm_journal(&storage, text, ROOM, &written) == ASM_NO_JOURNAL);
     REQUIRE(fire_of(&a[1], "{\"fire\":[[\"put\",[\"x\"],1]],\"reads\":[]}") == ASM_DONE &&
             read_of(&a[2], "[[\"x\"]]") == ASM_DONE);
@@ -247,12 +197,10 @@ static void ends(void) {
 }
 
 int main(void) {
-    empty_slots();
     full_slots();
-    numbers();
     no_bytes();
     garbage();
-    two_storages();
+    illegal();
     ends();
     puts("passed");
     return 0;
