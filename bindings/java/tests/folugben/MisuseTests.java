@@ -75,6 +75,7 @@ final class MisuseTests {
             thrown(kind, "locations[0] is null", () -> agent.peek(Arrays.asList((Location) null)));
             thrown(kind, "locations[0] is null", () -> step.get(Arrays.asList((Location) null)));
             thrown(kind, "location", () -> step.get((Location) null));
+            thrown(kind, "element", () -> step.has(X, null));
             thrown(kind, "move[1] is null", () -> step.push(moves));
             thrown(kind, "move[1] is null", () -> step.push(put, null));
             thrown(kind, "move[0] is null", () -> step.extend((Instruction) null));

@@ -1,11 +1,11 @@
 package folugben;
 
 import static folugben.Test.Checks.equal;
+import static folugben.Test.Checks.nulls;
 import static folugben.Test.Checks.outOfRange;
 import static folugben.Test.Checks.refused;
 import static folugben.Test.Checks.refusedAt;
 import static folugben.Test.Checks.refusedValue;
-import static folugben.Test.Checks.thrown;
 
 import java.util.ArrayList;
 import java.util.Collections;
@@ -111,151 +111,42 @@ final class ObjectTests {
         throw new IllegalStateException("a text that is cut off is read");
     }
 
-    /** The expected result of a move, as a reply: the updates, or what clashes. */
-    static Object foreseen(Map<Location, Value> state, List<Instruction> move) {
-        try {
-            return Moves.aggregate(state, move);
-        } catch (ClashException error) {
-            return List.of(error.at(), error.cause());
-        }
-    }
-
-    /** Random moves are pushed and fired as Moves expects, and the journal has them. */
-    static void moves() {
-        int fired = 0;
-        for (int round = 0; round < ROUNDS; round++) {
-            Randoms random = new Randoms(round);
-            Map<Location, Value> state = random.state();
-            try (Storage storage = Storage.open(state, 64); Agent agent = storage.agent(0)) {
-                for (int left = 8; left > 0; left--) {
-                    List<Instruction> move = random.move();
-                    Object wanted = foreseen(state, move);
-                    Agent.Reply reply = agent.tryFire(move, List.of());
-                    if (!reply.isFired()) {
-                        equal(List.of(reply.at(), reply.cause()), wanted);
-                        continue;
-                    }
-                    fired++;
-                    for (Map.Entry<?, ?> entry : ((Map<?, ?>) wanted).entrySet())
-                        state.put((Location) entry.getKey(), (Value) entry.getValue());
-                    state.values().removeIf(Value::isUndef);
-                    agent.follow();
-                    equal(agent.state().values(), state);
-                }
-                agent.give();
-                equal(Storage.replayed(storage.closeJournal()), state);
-            }
-        }
-        equal(fired > 2 * ROUNDS, true);
-    }
-
-    /** Whether the step takes both moves. */
-    static boolean takes(Step step, List<Instruction> first, List<Instruction> second) {
-        try {
-            step.push(first);
-            step.extend(second);
-            return true;
-        } catch (ClashException error) {
-            return false;
-        }
-    }
-
-    /** Two moves that are pushed in turn leave what their composed move does. */
-    static void composed() {
-        int composed = 0;
-        for (int round = 0; round < ROUNDS; round++) {
-            Randoms random = new Randoms(round);
-            Map<Location, Value> state = random.state();
-            List<Instruction> first = random.move();
-            List<Instruction> second = random.move();
-            List<Location> places =
-                    List.of(0, 1, 2, 3).stream().map(own -> Location.of("x", own)).toList();
-            try (Storage storage = Storage.open(state, 8); Agent agent = storage.agent(0);
-                    Step step = agent.step()) {
-                if (!takes(step, first, second))
-                    continue;
-                List<Value> seen = step.get(places);
-                Map<Location, Value> left = new TreeMap<>(state);
-                left.putAll(Moves.aggregate(state, Moves.compose(first, second)));
-                equal(seen, places.stream().map(place -> at(left, place)).toList());
-                equal(step.tryCommit().orThrow(), 1);
-                agent.follow();
-                equal(agent.peek(places), new Reading(1, places, seen));
-                composed++;
-            }
-        }
-        equal(composed > ROUNDS / 4, true);
-    }
-
-    /** Integers of 64 bits are exact, though a double would round them. */
-    static void numbers() {
-        long[] numbers = {Long.MIN_VALUE, Long.MIN_VALUE + 1, -(1L << 53) - 1, (1L << 53) + 1,
-                1_000_000_000_000_000_001L, Long.MAX_VALUE - 1, Long.MAX_VALUE};
-        for (long number : numbers) {
-            try (Storage storage = Storage.open(Map.of(X, 0), 2);
-                    Agent agent = storage.agent(0)) {
-                agent.tryFire(List.of(Instruction.inc(X, number)), List.of()).orThrow();
-                equal(agent.read(List.of(X)).value(X).asLong(), number);
-                agent.tryFire(List.of(Instruction.put(Y, number)), List.of()).orThrow();
-                equal(agent.read(List.of(Y)).value(Y), Element.of(number));
-            }
-        }
-    }
-
     /** Readings name what was read. */
     static void readings() {
         try (Storage storage = Storage.open(List.of(Pair.of(X, 1)), 8);
-                Agent agent = storage.agent(0); Agent rival = storage.agent(1)) {
+                Agent agent = storage.agent(0)) {
             Reading reading = agent.read(List.of(X, Y, X));
             equal(reading.named(), List.of(new Named(X, 0), new Named(Y, 0), new Named(X, 0)));
             equal(reading.value(Y).isUndef(), true);
             refusedValue("not read: z", () -> reading.value(Location.of("z")));
             refusedValue("1 locations have 0 values", () -> new Reading(0, List.of(X), List.of()));
-            equal(agent.stands(reading.named()).orThrow(), 0);
-            List<Instruction> move = List.of(Instruction.put(Y, List.of("a", 2)));
-            equal(rival.tryFire(move, reading.named()).orThrow(), 1);
-            equal(agent.stands(reading.named()).at(), Y);
-            equal(agent.tryFire(move, reading.named()).at(), Y);
-            equal(agent.tryFire(move, agent.peek(List.of(Y)).named()).orThrow(), 2);
-            equal(agent.read(List.of(Y)).value(Y), Element.list("a", 2));
         }
     }
 
     /** What the library refuses, and what no call takes. */
     static void refusals() {
-        List<Instruction> most = Collections.nCopies(4096, Instruction.put(X, 1));
         List<Instruction> more = Collections.nCopies(4097, Instruction.put(X, 1));
         Code shape = Code.SHAPE;
-        refusedAt(shape, 0, ": a location stands twice",
-                () -> Storage.open(List.of(Pair.of(X, 1), Pair.of(Y, 1), Pair.of(X, 1)), 8));
         outOfRange(() -> Storage.open(Map.of(), 0));
         refusedValue("no element: 0.5 (java.lang.Double)", () -> Storage.open(Map.of(X, 0.5), 8));
         try (Storage storage = Storage.open(List.of(), 8); Agent agent = storage.agent(0);
                 Step step = agent.step()) {
             String many = ": 4,097 instructions, at most 4,096";
-            refusedAt(shape, 0, many, () -> agent.tryFire(more, List.of()));
-            refusedAt(shape, 0, many, () -> step.push(more));
             refusedAt(shape, 0, many + " (first)", () -> Moves.compose(more, List.of()));
             refusedAt(shape, 0, many + " (second)", () -> Moves.compose(List.of(), more));
             refusedAt(shape, 0, many + " (move)", () -> Moves.aggregate(Map.of(), more));
-            equal(agent.tryFire(most, List.of()).orThrow(), 1);
-            Class<? extends RuntimeException> kind = NullPointerException.class;
             List<Location> places = null;
             List<Named> reads = null;
             List<Instruction> move = null;
             Map<Location, Value> state = null;
-            thrown(kind, "locations", () -> agent.read(places));
-            thrown(kind, "locations", () -> agent.peek(places));
-            thrown(kind, "locations", () -> step.get(places));
-            thrown(kind, "reads", () -> agent.stands(reads));
-            thrown(kind, "reads", () -> agent.tryFire(List.of(), reads));
-            thrown(kind, "instructions", () -> agent.tryFire(move, List.of()));
-            thrown(kind, "move", () -> step.push(move));
-            thrown(kind, "move", () -> step.extend(move));
-            thrown(kind, "first", () -> Moves.compose(move, List.of()));
-            thrown(kind, "second", () -> Moves.compose(List.of(), move));
-            thrown(kind, "state", () -> Moves.aggregate(state, List.of()));
-            thrown(kind, "init", () -> Storage.open(state, 8));
+            nulls("locations", () -> agent.read(places), () -> agent.peek(places), () -> step.get(places));
+            nulls("reads", () -> agent.stands(reads), () -> agent.tryFire(List.of(), reads));
+            nulls("instructions", () -> agent.tryFire(move, List.of()));
+            nulls("move", () -> step.push(move), () -> step.extend(move));
+            nulls("first", () -> Moves.compose(move, List.of()));
+            nulls("second", () -> Moves.compose(List.of(), move));
+            nulls("state", () -> Moves.aggregate(state, List.of()));
+            nulls("init", () -> Storage.open(state, 8));
             refusedValue("name has a lone surrogate at index 0", () -> step.scan("\ude00").values());
         }
     }
@@ -267,12 +158,6 @@ final class ObjectTests {
         System.out.println("texts");
         noTexts();
         System.out.println("no texts");
-        moves();
-        System.out.println("moves as objects");
-        composed();
-        System.out.println("composed");
-        numbers();
-        System.out.println("numbers");
         readings();
         System.out.println("readings");
         refusals();

@@ -161,71 +161,6 @@ final class PlainTests {
         return answer != null;
     }
 
-    /** Counts of elements and sizes, of sets, bags and nothing, through pushed moves. */
-    static void members() {
-        Location b = Location.of("b");
-        Map<Location, Value> state = Map.of(S, Value.set(1, "a", List.of(true)), X, Element.of(7),
-                b, Value.bag(Map.of()));
-        try (Storage storage = Storage.open(state, 8); Agent agent = storage.agent(0);
-                Step step = agent.step(); PreparedLocation s = S.prepare();
-                PreparedLocation x = X.prepare()) {
-            for (Object it : List.of(1, "a", List.of(true))) {
-                Element element = Element.of(it);
-                equal(step.has(S, element) && step.has(s, element), true);
-                equal(step.countOf(S, element), 1L);
-            }
-            for (Object it : List.of(2, "", false, List.of()))
-                equal(step.has(s, Element.of(it)), false);
-            equal(step.has(s, Element.undef()), false);
-            equal(List.of(step.size(S), step.size(s), step.size(b)), List.of(3L, 3L, 0L));
-            step.push(Instruction.remove(S, 1), Instruction.bagAdd(b, "a", 2),
-                    Instruction.bagAdd(b, 5, 4294967295L));
-            equal(step.has(s, Element.of(1)), false);
-            equal(List.of(step.countOf(b, Element.of("a")), step.countOf(b, Element.of(5))),
-                    List.of(2L, 4294967295L));
-            equal(List.of(step.size(s), step.size(b)), List.of(2L, 4294967297L));
-            equal(step.offer().reads().stream().map(Named::location).toList(), List.of(b, S));
-            thrown(IllegalStateException.class, "no set or bag: 7",
-                    () -> step.has(x, Element.of(1)));
-            thrown(IllegalStateException.class, "no set or bag: 7", () -> step.size(X));
-            equal(step.offer().reads().stream().map(Named::location).toList(), List.of(b, S, X));
-            thrown(NullPointerException.class, "element", () -> step.has(s, null));
-            equal(step.commit(), 1L);
-            refused(Code.EMPTY, () -> step.has(s, Element.of(1)));
-            refused(Code.EMPTY, () -> step.size(s));
-        }
-        try (Storage storage = Storage.open(state, 8); Agent agent = storage.agent(0);
-                Step step = agent.step(); PreparedLocation s = S.prepare()) {
-            for (int i = 0; i < 256; i++) step.size(Location.of("w", i));
-            refused(Code.MANY, () -> step.size(s));
-            refused(Code.MANY, () -> step.has(s, Element.of(1)));
-            agent.fire(List.of(), List.of());
-            agent.follow();
-            refused(Code.MOVED, () -> step.has(s, Element.of(1)));
-            refused(Code.MOVED, () -> step.size(s));
-        }
-    }
-
-    static void limits() {
-        try (PreparedLocation x = X.prepare(); Move move = new Move()) {
-            for (int i = 0; i < 4096; i++) move.put(x, 1);
-            refused(Code.LONG_MOVE, () -> move.put(x, 1));
-            refused(Code.LONG_MOVE, () -> move.put(x, "1"));
-            equal(move.size(), 4096);
-            equal(move.clear().size(), 0);
-        }
-        try (Storage storage = Storage.open(Map.of(X, 1), 8); Agent agent = storage.agent(0);
-                Step step = agent.step()) {
-            for (int i = 0; i < 256; i++)
-                try (PreparedLocation w = Location.of("w", i).prepare()) {
-                    equal(step.get(w).isUndef(), true);
-                }
-            try (PreparedLocation x = X.prepare()) {
-                refused(Code.MANY, () -> step.getLong(x));
-            }
-        }
-    }
-
     /** What the classes refuse before the library is asked. */
     static void operands() {
         try (PreparedLocation x = X.prepare(); Move move = new Move()) {
@@ -242,6 +177,9 @@ final class PlainTests {
             thrown(kind, "text", () -> move.add(x, (String) null));
             thrown(kind, "element", () -> move.remove(x, (Element) null));
             thrown(kind, "value", () -> move.put(x, (Value) null));
+            thrown(kind, "other", () -> move.unite(null));
+            thrown(IllegalArgumentException.class,
+                    "a move is united with another one, not with itself", () -> move.unite(move));
             equal(move.size(), 1);
         }
         refusedAt(Code.NOT_JSON, 0, " at byte 2", () -> new PreparedLocation("[nul]"));
@@ -250,28 +188,6 @@ final class PlainTests {
                 () -> new PreparedLocation("7"));
         refused(Code.NOT_JSON, () -> new PreparedLocation("[\"x\"],[\"y\"]"));
         thrown(NullPointerException.class, "location", () -> new PreparedLocation(null));
-    }
-
-    /** A move that is popped counts as one instruction, and takes the place of those before it. */
-    static void popped() {
-        try (Storage storage = Storage.open(Map.of(X, 1), 8); Agent agent = storage.agent(0);
-                Step step = agent.step(); PreparedLocation x = X.prepare();
-                Move move = new Move()) {
-            step.push(Instruction.inc(X, 3));
-            step.extend(Instruction.inc(X, 4));
-            equal(step.popMove(move.put(x, "dropped")), move);
-            equal(move.size(), 1);
-            step.push(move.inc(x, 10));
-            equal(move.size(), 2);
-            try (Move last = step.popMove()) {
-                step.extend(last);
-                equal(step.getLong(x), 18L);
-            }
-            Move closed = new Move();
-            closed.close();
-            refused(Code.EMPTY, () -> step.popMove(closed));
-            equal(step.depth(), 1);
-        }
     }
 
     /** Handles that are closed, or whose step or agent is over. */
@@ -300,11 +216,18 @@ final class PlainTests {
                 equal(refused(Code.EMPTY, call).getMessage(), message + "location was closed");
             next.push(move);
             equal(next.get(X), Element.of(5));
+            equal(next.popMove(move), move);
+            next.push(move);
+            try (Move last = next.popMove()) {
+                next.push(last);
+            }
             move.close();
             move.close();
             try (PreparedLocation y = Location.of("y").prepare()) {
-                for (Runnable call : List.<Runnable>of(() -> next.push(move),
-                             () -> next.extend(move), () -> move.put(y, 1), move::clear))
+                Move other = new Move();
+                for (Runnable call : List.<Runnable>of(() -> next.push(move), () -> next.extend(move),
+                             () -> move.put(y, 1), move::clear, () -> next.popMove(move),
+                             () -> move.unite(other), () -> other.unite(move)))
                     equal(refused(Code.EMPTY, call).getMessage(), message + "move was closed");
                 equal(move.size(), 0);
                 equal(next.depth(), 1);
@@ -313,30 +236,6 @@ final class PlainTests {
                 refused(Code.EMPTY, () -> agent.peek(y));
                 refused(Code.EMPTY, next::commit);
                 next.close();
-            }
-        }
-    }
-
-    /** What tryFire returns for each reply. */
-    static void fires() {
-        try (Storage storage = Storage.open(Map.of(X, 1), 2); Agent agent = storage.agent(0);
-                Agent rival = storage.agent(1); PreparedLocation x = X.prepare();
-                Move move = new Move()) {
-            try (Step step = agent.step()) {
-                step.push(move.inc(x, 1));
-                rival.tryFire(List.of(Instruction.put(X, Value.set())), List.of());
-                equal(step.tryCommit().move(), 0);
-                equal(agent.answer(), "{\"clash\":[[\"x\"],\"Kind\"]}");
-                equal(step.tryCommit().move(), 0);
-            }
-            try (Step step = agent.step()) {
-                refused(Code.CLASH, () -> step.push(move));
-                step.push(move.clear().put(x, "all"));
-                equal(step.tryCommit().move(), 2);
-            }
-            try (Step step = agent.step()) {
-                equal(step.getText(x), "all");
-                refused(Code.FULL, step::commit);
             }
         }
     }
@@ -385,18 +284,10 @@ final class PlainTests {
         System.out.println("plain values");
         moves();
         System.out.println("gathered moves");
-        members();
-        System.out.println("members");
-        limits();
-        System.out.println("plain limits");
         operands();
         System.out.println("operands");
-        popped();
-        System.out.println("popped moves");
         closed();
         System.out.println("closed handles");
-        fires();
-        System.out.println("fires");
         sharedByThreads();
         System.out.println("plain calls shared by threads");
     }

@@ -11,45 +11,12 @@ import java.util.ArrayList;
 import java.util.List;
 import java.util.Map;
 
-/** Tests of moves that are united, and of agents that one thread plays by turns. */
+/** Tests of agents that one thread plays by turns, and of what is said of limits. */
 final class TakeTests {
     private static final Location X = Location.of("x");
     private static final Location Y = Location.of("y");
 
     private TakeTests() {}
-
-    private static void movesAreUnited() {
-        try (Storage storage = Storage.open(Map.of(X, 1), 10); Agent agent = storage.agent(0);
-                Move one = new Move(); Move other = new Move(); Move none = new Move()) {
-            one.gather(Instruction.inc(X, 1));
-            other.gather(Instruction.inc(X, 2)).gather(Instruction.put(Y, "y"));
-            equal(one.unite(other).unite(none).size(), 3);
-            try (Step step = agent.step()) {
-                step.push(other);
-                equal(none.unite(step.popMove()).unite(one).size(), 4);
-            }
-            thrown(IllegalArgumentException.class,
-                    "a move is united with another one, not with itself", () -> one.unite(one));
-            thrown(NullPointerException.class, "other", () -> one.unite(null));
-        }
-    }
-
-    private static void unitedMovesHaveALimit() {
-        Move other = new Move();
-        try (Move one = new Move(); Move third = new Move()) {
-            for (int i = 0; i < 2048; i++) {
-                one.gather(Instruction.inc(X, 1));
-                other.gather(Instruction.inc(X, 1));
-            }
-            third.gather(Instruction.inc(X, 1));
-            equal(one.unite(other).size(), 4096);
-            refused(Code.LONG_MOVE, () -> one.unite(third));
-            equal(one.size(), 4096);
-            other.close();
-            refused(Code.EMPTY, () -> one.unite(other));
-            refused(Code.EMPTY, () -> other.unite(one));
-        }
-    }
 
     /** Agents that a thread plays by turns do as on threads of their own. */
     private static void agentsOfOneThreadShareTheirState() {
@@ -176,27 +143,6 @@ final class TakeTests {
         }
     }
 
-    /** A clash at the commit is a conflict, and one of a push or of a fire is none. */
-    private static void conflictsAreOneException() {
-        Location bag = Location.of("b");
-        try (Storage storage = Storage.open(Map.of(bag, Map.of("e", 1)), 10);
-                Agent one = storage.agent(0); Agent rival = storage.agent(1);
-                Step step = one.step()) {
-            ClashException push = (ClashException) refused(Code.CLASH,
-                    () -> step.push(Instruction.put(X, 1), Instruction.put(X, 2)));
-            equal(push.at(), X);
-            step.push(Instruction.bagRemove(bag, "e", 1));
-            rival.fire(List.of(Instruction.bagRemove(bag, "e", 1)), List.of());
-            CommitClashException commit =
-                    (CommitClashException) refused(Code.CLASH, step::commit);
-            equal(commit.at(), bag);
-            equal(commit.cause(), Cause.SHORT);
-            equal(step.tryCommit().shouldRetry(), true);
-            refused(Code.CLASH,
-                    () -> rival.fire(List.of(Instruction.put(X, 1), Instruction.put(X, 2)), List.of()));
-        }
-    }
-
     /** What is beyond a limit says which, and how many there are. */
     private static void limitsAreNamed() {
         List<Location> many = new ArrayList<>();
@@ -215,6 +161,10 @@ final class TakeTests {
             step.push(full);
             withMessage("the one move of all that are pushed would have more than 4,096 instructions",
                     () -> step.push(Instruction.put(Y, 1)));
+            step.get(many.subList(0, 256));
+            try (PreparedLocation at = Y.prepare()) {
+                withMessage("the step would depend on more than 256 locations and functions", () -> step.getLong(at));
+            }
             withMessage("lists nest at most 8 deep", () -> step.push(
                     "[[\"put\",[\"x\"]," + "{\"list\":[".repeat(90) + "]}".repeat(90) + "]]"));
         }
@@ -256,12 +206,9 @@ final class TakeTests {
     }
 
     static void all() throws InterruptedException {
-        movesAreUnited();
-        unitedMovesHaveALimit();
         agentsOfOneThreadShareTheirState();
         threadsMayPlayTheSameAgents();
         playsHaveBounds();
-        conflictsAreOneException();
         limitsAreNamed();
         System.out.println("turns of one thread");
     }

@@ -1,10 +1,8 @@
 package folugben;
 
 import static folugben.Test.Checks.equal;
-import static folugben.Test.Checks.outOfRange;
 import static folugben.Test.Checks.refused;
 import static folugben.Test.Checks.refusedAt;
-import static folugben.Test.Checks.thrown;
 
 import com.sun.jna.NativeLibrary;
 import com.sun.jna.Platform;
@@ -20,48 +18,23 @@ public final class Test {
     private Test() {}
 
     static void codes() {
-        Storage storage = new Storage("[]", 8);
-        Storage other = new Storage("[]", 8);
-        Agent agent = storage.agent(0);
-        Agent stranger = other.agent(1);
-        outOfRange(() -> new Storage("[]", 0));
-        refused(Code.NOT_JSON, () -> new Storage("[", 1));
-        outOfRange(() -> storage.agent(256));
-        refused(Code.OTHER, () -> storage.give(stranger));
-        refused(Code.OTHER, () -> agent.learn(stranger));
-        refused(Code.EMPTY, () -> agent.learn(agent));
-        agent.tryFire("[]", "[]");
-        agent.give();
-        storage.agent(7).close();
-        refused(Code.NUMBER, () -> storage.agent(7));
-        String journal = storage.closeJournal();
-        codesOfJournals(journal);
-        refusedAt(Code.NOT_JSON, 0, ": cut off after byte 1",
-                () -> new Storage("[", 1));
-        storage.close();
-        refused(Code.EMPTY, () -> storage.agent(1));
-        other.close();
-        stranger.close();
-    }
-
-    private static void codesOfJournals(String journal) {
-        equal(Storage.check(journal), new Storage.Checked(1, 1));
-        refusedAt(Code.CUT, 0, "",
-                () -> Storage.check(journal.substring(0, journal.length() - 1)));
-        refusedAt(Code.ILLEGAL, 0, " (call 0)",
-                () -> Storage.check(journal.replace("\"fired\":1", "\"fired\":2")));
-        String event = ": an event is an object with the members agent, call and reply";
-        refusedAt(Code.SHAPE, 3, event + " (line 3)",
-                () -> Storage.check(journal + "7\n"));
-        refusedAt(Code.SHAPE, 2, event + " (line 2)",
-                () -> Storage.replay(journal.replace("\"agent\"", "\"Agent\"")));
-        refusedAt(Code.NOT_JSON, 1, " (line 1)", () -> Storage.replay("{\n"));
-        refusedAt(Code.NOT_JSON, 1, " (line 1)", () -> Storage.trace("{\n"));
-        List<String> trace = Storage.trace(journal.replace("\"fired\":1", "\"fired\":2"));
-        equal(trace.size(), 2);
-        equal(trace.get(0).endsWith("\"trace\":1}"), true);
-        String message = "\"right\":{\"fired\":1},\"updates\":[";
-        equal(trace.get(1).contains(message), true);
+        try (Storage storage = new Storage("[]", 8); Storage other = new Storage("[]", 8);
+                Agent agent = storage.agent(0); Agent stranger = other.agent(1)) {
+            refused(Code.OTHER, () -> storage.give(stranger));
+            refused(Code.OTHER, () -> agent.learn(stranger));
+            refused(Code.EMPTY, () -> agent.learn(agent));
+            agent.tryFire("[]", "[]");
+            agent.give();
+            String journal = storage.closeJournal();
+            refusedAt(Code.ILLEGAL, 0, " (call 0)",
+                    () -> Storage.check(journal.replace("\"fired\":1", "\"fired\":2")));
+            refusedAt(Code.NOT_JSON, 1, " (line 1)", () -> Storage.trace("{\n"));
+            List<String> trace = Storage.trace(journal.replace("\"fired\":1", "\"fired\":2"));
+            equal(trace.size(), 2);
+            equal(trace.get(0).endsWith("\"trace\":1}"), true);
+            String message = "\"right\":{\"fired\":1},\"updates\":[";
+            equal(trace.get(1).contains(message), true);
+        }
     }
 
     /** The moves of an agent that is abandoned are missing, seen or not. */
@@ -93,29 +66,21 @@ public final class Test {
     }
 
     static void nulls() {
-        try (Storage storage = new Storage("[]", 8); Agent agent = storage.agent(0)) {
-            Class<? extends RuntimeException> kind = NullPointerException.class;
-            thrown(kind, "init", () -> new Storage(null, 8));
-            thrown(kind, "locations", () -> agent.read((String) null));
-            thrown(kind, "instructions", () -> agent.tryFire(null, "[]"));
-            thrown(kind, "reads", () -> agent.tryFire("[]", null));
-            thrown(kind, "other", () -> agent.learn(null));
-            thrown(kind, "agent", () -> storage.give(null));
-            thrown(kind, "journal", () -> Storage.check(null));
-            thrown(kind, "journal", () -> Storage.replay(null));
-            thrown(kind, "locations", () -> agent.peek((String) null));
-            thrown(kind, "name", () -> agent.scan(null));
-            thrown(kind, "reads", () -> agent.stands((String) null));
-            thrown(kind, "state", () -> Moves.aggregate(null, "[]"));
-            thrown(kind, "move", () -> Moves.aggregate("[]", null));
-            thrown(kind, "first", () -> Moves.compose(null, "[]"));
-            thrown(kind, "second", () -> Moves.compose("[]", null));
-            try (Step step = agent.step()) {
-                thrown(kind, "locations", () -> step.get((String) null));
-                thrown(kind, "name", () -> step.scan(null));
-                thrown(kind, "move", () -> step.push((String) null));
-                thrown(kind, "move", () -> step.extend((String) null));
-            }
+        try (Storage storage = new Storage("[]", 8); Agent agent = storage.agent(0); Step step = agent.step()) {
+            Checks.nulls("init", () -> new Storage(null, 8));
+            Checks.nulls("locations", () -> agent.read((String) null), () -> agent.peek((String) null),
+                    () -> step.get((String) null));
+            Checks.nulls("instructions", () -> agent.tryFire(null, "[]"));
+            Checks.nulls("reads", () -> agent.tryFire("[]", null), () -> agent.stands((String) null));
+            Checks.nulls("other", () -> agent.learn(null));
+            Checks.nulls("agent", () -> storage.give(null));
+            Checks.nulls("journal", () -> Storage.check(null), () -> Storage.replay(null));
+            Checks.nulls("name", () -> agent.scan(null), () -> step.scan(null));
+            Checks.nulls("state", () -> Moves.aggregate(null, "[]"));
+            Checks.nulls("move", () -> Moves.aggregate("[]", null), () -> step.push((String) null),
+                    () -> step.extend((String) null));
+            Checks.nulls("first", () -> Moves.compose(null, "[]"));
+            Checks.nulls("second", () -> Moves.compose("[]", null));
         }
     }
 
@@ -263,6 +228,11 @@ public final class Test {
                 return;
             }
             throw new IllegalStateException("not thrown: " + message);
+        }
+
+        /** Each call throws a NullPointerException with the name of its argument. */
+        static void nulls(String name, Runnable... calls) {
+            for (Runnable call : calls) thrown(NullPointerException.class, name, call);
         }
 
         /** The call is refused by an IllegalArgumentException with this text. */

@@ -21,7 +21,6 @@ import java.util.Random;
 import java.util.Set;
 import java.util.regex.Matcher;
 import java.util.regex.Pattern;
-import java.util.stream.IntStream;
 
 /** Tests of values, locations and instructions by themselves. */
 final class ValueTests {
@@ -191,86 +190,9 @@ final class ValueTests {
         System.out.println("kinds");
     }
 
-    /** Tests of the exceptions that have a class of their own, and of replies that are thrown. */
+    /** Tests of codes, and of a reply that no call here returns. */
     static final class KindTests {
-        private static final Location X = Location.of("x");
-        private static final Location S = Location.of("s", "a\"b");
-        private static final Location B = Location.of("b");
-        private static final Location Y = Location.of("y");
-        private static final Map<Location, Value> INIT = Map.of(X, Element.of(Long.MAX_VALUE), S,
-                Value.set(1), B, Value.bag(Map.of(1, Value.MAX_COUNT)));
-
         private KindTests() {}
-
-        /** The exception of this class and code that the call throws. */
-        static <T extends FolugbenException> T kind(Class<T> kind, Code code, Runnable call) {
-            FolugbenException error = refused(code, call);
-            equal(error.getClass(), kind);
-            return kind.cast(error);
-        }
-
-        /** The updates clash at the location for the cause, wherever they are played. */
-        static void clash(Location at, Cause cause, Instruction... move) {
-            Code code = Code.CLASH;
-            List<Instruction> all = List.of(move);
-            try (Storage storage = Storage.open(INIT, 8); Agent agent = storage.agent(0);
-                    Step step = agent.step()) {
-                Agent.Reply reply = agent.tryFire(all, List.of());
-                equal(reply.at(), at);
-                equal(reply.cause(), cause);
-                List<Runnable> calls = List.of(reply::orThrow, () -> step.push(move),
-                        () -> step.push(all), () -> step.extend(move), () -> step.extend(all),
-                        () -> Moves.aggregate(INIT, all));
-                for (Runnable call : calls) {
-                    ClashException error = kind(ClashException.class, code, call);
-                    equal(error.at(), at);
-                    equal(error.cause(), cause);
-                    equal(error.getMessage(),
-                            code.text() + ": " + error.answer());
-                    equal(error.answer(), reply.answer());
-                }
-                equal(step.depth(), 0);
-            }
-        }
-
-        static void clashes() {
-            clash(Y, Cause.TWO, Instruction.put(Y, 1), Instruction.put(Y, 2));
-            clash(S, Cause.MIXED, Instruction.add(S, 2), Instruction.inc(S, 2));
-            clash(X, Cause.KIND, Instruction.add(X, 2));
-            clash(S, Cause.BOTH, Instruction.add(S, 2), Instruction.remove(S, 2));
-            clash(S, Cause.AGAINST, Instruction.put(S, Value.set()), Instruction.add(S, 2));
-            clash(B, Cause.SHORT, Instruction.bagRemove(B, 2, 1));
-            clash(B, Cause.LARGE, Instruction.bagAdd(B, 1, 1));
-            clash(X, Cause.LARGE, Instruction.inc(X, 1));
-            // The smallest of several.
-            clash(B, Cause.SHORT, Instruction.inc(X, 1), Instruction.bagRemove(B, 2, 1));
-        }
-
-        static void stale() {
-            try (Storage storage = Storage.open(INIT, 8); Agent agent = storage.agent(0);
-                    Agent rival = storage.agent(1); Step step = agent.step()) {
-                List<Named> reads = agent.peek(List.of(X, S)).named();
-                equal(step.get(S), Value.set(1));
-                step.push(Instruction.put(Y, 1));
-                rival.tryFire(List.of(Instruction.add(S, 2)), List.of()).orThrow();
-                List<Runnable> calls = List.of(() -> step.tryCommit().orThrow(),
-                        () -> agent.tryFire(List.of(), reads).orThrow(),
-                        () -> agent.stands(reads).orThrow());
-                for (Runnable call : calls) {
-                    StaleException error =
-                            kind(StaleException.class, Code.STALE, call);
-                    equal(error.at(), S);
-                    equal(error.answer(), "{\"stale\":[\"s\",\"a\\\"b\"]}");
-                    equal(error.getMessage(), Code.STALE.text()
-                                    + ": " + error.answer());
-                }
-                equal(step.tryCommit().cause() == null, true);
-                kind(MovedException.class, Code.MOVED, () -> step.get(S));
-                kind(MovedException.class, Code.MOVED, () -> step.scan("s").values());
-                kind(MovedException.class, Code.MOVED, step::push);
-                kind(MovedException.class, Code.MOVED, step::extend);
-            }
-        }
 
         /** The codes of the header, by name, if its place is known; else none. */
         private static Map<String, Integer> ofHeader() {
@@ -297,76 +219,24 @@ final class ValueTests {
                 equal(code.text().isEmpty(), false);
             }
             ofHeader().forEach((name, number) -> equal(Code.valueOf(name).number(), number));
-            try (Storage storage = Storage.open(INIT, 8); Agent agent = storage.agent(0)) {
-                equal(agent.tryFire("[]", "[]").code(), Code.DONE);
-                equal(agent.tryFire(List.of(Instruction.add(X, 2)), List.of()).code(), Code.CLASH);
-                equal(refused(Code.AHEAD, () -> agent.fire("[]", "[[[\"x\"],9]]")).code(), Code.AHEAD);
-            }
         }
 
-        static void large() {
-            Instruction all = Instruction.bagRemove(B, 2, Value.MAX_COUNT);
-            LargeException error = kind(LargeException.class, Code.LARGE,
-                    () -> Moves.compose(List.of(all), List.of(Instruction.bagRemove(B, 2, 1))));
-            equal(error.at(), B);
-            equal(error.answer(), "{\"large\":[\"b\"]}");
-            equal(new LargeException(Code.LARGE, "", null).at() == null, true);
-        }
-
-        static void many() {
-            Code code = Code.MANY;
-            List<Location> places =
-                    IntStream.range(0, 257).mapToObj(own -> Location.of("w", own)).toList();
-            List<Instruction> most =
-                    IntStream.range(0, 4096)
-                            .mapToObj(own -> Instruction.bagAdd(Location.of("b", own), 1, 1))
-                            .toList();
-            List<Instruction> one = List.of(Instruction.put(X, 1));
-            try (Storage storage = Storage.open(INIT, 8); Agent agent = storage.agent(0);
-                    Step step = agent.step()) {
-                List<Named> reads = agent.peek(places).named();
-                kind(ManyException.class, code, () -> agent.read(places));
-                kind(ManyException.class, code, () -> agent.stands(reads));
-                kind(ManyException.class, code, () -> agent.tryFire(List.of(), reads));
-                kind(ManyException.class, code, () -> step.get(places));
-                kind(ManyException.class, Code.LONG_MOVE, () -> Moves.compose(most, one));
-                equal(Moves.compose(most, List.of()), most);
-                for (int depth = 0; depth < 64; depth++) step.push();
-                kind(DeepException.class, Code.DEEP, () -> step.push(one));
-                step.extend(Instruction.put(X, 2));
-                equal(step.get(X).asLong(), 2L);
-            }
-        }
-
-        static void fullAndBusy() {
-            try (Storage storage = Storage.open(INIT, 1); Agent agent = storage.agent(0)) {
-                agent.tryFire(List.of(), List.of()).orThrow();
-                Agent.Reply reply = agent.tryFire(List.of(), List.of());
-                equal(reply.at() == null && reply.cause() == null, true);
-                FullException full =
-                        kind(FullException.class, Code.FULL, reply::orThrow);
-                equal(full.getMessage(), Code.FULL.text());
-            }
+        /** A lost attempt to append says how far behind the agent was. */
+        static void busy() {
             Agent.Reply reply = new Agent.Reply(Code.BUSY, 0, 3, 70, null);
-            BusyException busy = kind(BusyException.class, Code.BUSY, reply::orThrow);
+            BusyException busy = (BusyException) refused(Code.BUSY, reply::orThrow);
             equal(busy.from(), 3);
             equal(busy.to(), 70);
             String seen = " (the agent had seen 3 moves at the start of the call and 70 at its end)";
             equal(busy.getMessage(), Code.BUSY.text() + seen);
+            equal(new LargeException(Code.LARGE, "", null).at() == null, true);
         }
 
         static void all() {
-            clashes();
-            System.out.println("clashes");
-            stale();
-            System.out.println("stale");
             codes();
-            large();
-            System.out.println("large");
-            many();
-            System.out.println("many");
-            fullAndBusy();
-            System.out.println("full and busy");
+            System.out.println("codes of the header");
+            busy();
+            System.out.println("busy");
         }
     }
 }
