@@ -3,8 +3,6 @@
 
 #include <cstdint>
 #include <cstdio>
-#include <map>
-#include <span>
 #include <string>
 #include <thread>
 #include <utility>
@@ -201,58 +199,7 @@ void threads_take_agents() {
     WANTED(reader.follow() == 800 && reader.peek(folugben::location("count")).number() == 800);
 }
 
-// The JSON of a value, written by what it is read as.
-std::string json(const folugben::value &it) {
-    std::string text;
-    if (it.kind() == ASM_KIND_SET) return folugben::detail::json_of(it.as_set());
-    if (it.kind() == ASM_KIND_BAG) return folugben::detail::json_of(it.as_bag());
-    it.as_element().write_json(text);
-    return text;
-}
-
 using folugben::detail::within;
-
-std::string place(std::uint64_t number) { return within(R"(["x",)", std::to_string(number), "]"); }
-// A reading at this number, of values that are separated by commas.
-std::string reading(std::uint32_t number, const std::string &values) {
-    std::string text = within(R"({"number":)", std::to_string(number), R"(,"values":[)");
-    return text.append(values).append("]}");
-}
-
-// What locations have at first: values of all kinds.
-const std::vector<std::string> VALUES = {"null", "true", "false", "-7", "9223372036854775807", R"("")", R"("a \"\\ \u0001")",
-                                         R"({"list":[1,{"list":[]}]})", R"({"set":[null,1,"a"]})", R"({"bag":[[1,2],["a",4294967295]]})"};
-
-// Commits steps that get some places and put to one; returns the lines that a journal must have of what those got that fired,
-// without their numbers.
-std::vector<std::string> recorded_steps(folugben::agent agent, std::uint64_t number) {
-    std::vector<std::string> lines;
-    std::uint64_t draw = number + 1;
-    const auto below = [&](std::uint64_t most) { return (draw = draw * 6364136223846793005u + 1442695040888963407u) / 65536 % most; };
-    for (int i = 0; i < 200; ++i) {
-        folugben::step step = agent.begin();
-        std::map<std::uint64_t, std::string> values_by_place;
-        for (std::uint64_t left = below(4); left > 0; --left) {
-            const std::uint64_t at = below(VALUES.size());
-            const std::string text = step.get_json(within("[", place(at), "]"));
-            values_by_place[at] = json(step.get(folugben::location::of_json(place(at))));
-            WANTED(text == reading(step.number(), values_by_place[at]));
-        }
-        const std::string to = within(R"([["put",)", place(below(VALUES.size())), ",");
-        step.push_json(within(to, VALUES[below(VALUES.size())], "]]"));
-        std::string places, values;
-        for (const auto &[at, value] : values_by_place) {
-            places.append(places.empty() ? "" : ",").append(place(at));
-            values.append(values.empty() ? "" : ",").append(value);
-        }
-        std::string line = within(R"({"agent":)", std::to_string(number), R"(,"call":{"read":[)");
-        line.append(places).append(R"(]},"reply":{"values":[)").append(values).append("]}}");
-        const folugben::outcome result = step.try_commit();
-        WANTED(result || result.is_conflict());
-        if (result && !places.empty()) lines.push_back(line);
-    }
-    return lines;
-}
 
 // The lines of a journal that begin so.
 std::vector<std::string> lines_of(const std::string &journal, const std::string &begin) {
@@ -262,60 +209,13 @@ std::vector<std::string> lines_of(const std::string &journal, const std::string 
     return lines;
 }
 
-// The reads of an agent that a journal has before its fired moves, without their numbers.
-std::vector<std::string> reads_of_fired(const std::string &journal, std::size_t agent) {
-    std::vector<std::string> reads;
-    std::string last;
-    for (std::string &line : lines_of(journal, within(R"({"agent":)", std::to_string(agent), ","))) {
-        const std::size_t at = line.find(R"("number":)");
-        if (line.find(R"("reply":{"fired":)") != std::string::npos && !last.empty()) reads.push_back(last);
-        last.clear();
-        if (line.find(R"("call":{"read":)") != std::string::npos) last = line.erase(at, line.find(',', at) + 1 - at);
-    }
-    return reads;
-}
-
-void journals_record_what_gets_return() {
-    std::string state;
-    for (std::size_t i = 0; i < VALUES.size(); ++i) state.append(within(i ? ",[" : "[", place(i), ",")).append(VALUES[i]).append("]");
-    folugben::storage storage(within("[", state, "]"), 1000);
-    storage.record(true);
-    std::vector<std::vector<std::string>> expected(4);
-    std::vector<std::thread> threads;
-    for (std::uint32_t i = 0; i < 4; ++i)
-        threads.emplace_back([&, i, agent = storage.make_agent(i)]() mutable { expected[i] = recorded_steps(std::move(agent), i); });
-    for (std::thread &it : threads) it.join();
-    const std::string journal = storage.close();
-    WANTED(folugben::check(journal).is_legal);
-    for (std::size_t i = 0; i < expected.size(); ++i)
-        WANTED(reads_of_fired(journal, i) == expected[i]);
-}
-
-// A commit whose agent has moved on within the step reads and fires, unless what it read was written.
-void moved_commits_fire() {
+// Storages that go on record as the one before, and agents as their storage when they are made.
+void continued_storages_record() {
     folugben::storage storage(COUNT, 10);
-    folugben::agent rival = storage.make_agent(1);
     storage.record(true);
-    folugben::agent agent = storage.make_agent(0);
     const folugben::location count("count");
-    const auto begin = [&](const char *written) {
-        folugben::step step = agent.begin();
-        step.push(folugben::instructions().put(folugben::location("y"), step.get(count)));
-        rival.fire_json(within(R"({"fire":[["put",[)", written, R"(],7]],"reads":[]})"));
-        agent.follow();
-        return step;
-    };
-    WANTED(begin(R"("z")").commit() == 2);
-    WANTED(REFUSED(folugben::conflict, begin(R"("count")").commit()).code() == code::stale);
-    folugben::step unread = agent.begin();
-    unread.push(folugben::instructions().put(folugben::location("y"), 5));
-    WANTED(unread.commit() == 4);
     const auto leave = [](folugben::agent released) { (void)released; };
-    leave(std::move(agent));
-    leave(std::move(rival));
-    const std::string read = R"({"agent":0,"call":{"read":[["count"]]},"reply":{"number":1,"values":[7]}})";
-    WANTED(lines_of(storage.close(), R"({"agent":0,"call":{"read")") == std::vector<std::string>{read});
-    // Storages that go on do as this one, and agents that are checked out too.
+    (void)storage.close();
     folugben::storage next = storage.next(1);
     leave(next.make_agent(0));
     next.take(0).play([&](folugben::step &it) { it.push(folugben::instructions().put(count, it.get(count))); });
@@ -337,7 +237,6 @@ int main() {
     steps_stay_valid_when_their_agents_are_moved();
     moved_objects_are_empty();
     threads_take_agents();
-    journals_record_what_gets_return();
-    moved_commits_fire();
+    continued_storages_record();
     std::puts("passed");
 }

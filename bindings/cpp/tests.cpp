@@ -133,36 +133,25 @@ void sets_bags_and_scans_are_read() {
     }).result);
 }
 
-// A loop by hand begins again at a conflict, and at nothing else.
-void elements_are_counted() {
-    folugben::storage storage(R"([[["b"],{"bag":[["a",2]]}],[["n"],7],[["s"],{"set":[1,{"list":[true]}]}]])", 10);
+void what_is_no_set_and_no_element_is_said() {
+    folugben::storage storage(R"([[["n"],7],[["s"],{"set":[1]}]])", 10);
     folugben::agent agent = storage.make_agent(0);
-    folugben::location s("s"), b("b"), n("n"), none("none");
+    folugben::location s("s"), n("n");
     folugben::step step = agent.begin();
-    folugben::instructions move;
-    WANTED(step.has(s, 1) && step.has(s, folugben::list{true}) && !step.has(s, "1") && !step.has(none, nullptr));
-    WANTED(step.count_of(b, "a") == 2 && step.size(b) == 2 && step.size(s) == 2 && step.size(none) == 0);
-    step.push(move.bag_add(b, 5, UINT32_MAX).remove(s, 1));
-    WANTED(step.count_of(b, 5) == UINT32_MAX && step.size(b) == 2 + std::uint64_t{UINT32_MAX} && !step.has(s, 1) && step.size(s) == 1);
-    step.pop();
-    WANTED(step.offer_json() == R"({"fire":[],"reads":[[["b"],0],[["none"],0],[["s"],0]]})");
     std::uint32_t count = 9;
     std::uint64_t size = 9;
+    bool any = true;
     WANTED(step.try_count_of(n, 1, count) == code::shape && count == 0 && step.try_size(n, size) == code::shape && size == 0);
-    WANTED(step.offer_json() == R"({"fire":[],"reads":[[["b"],0],[["n"],0],[["none"],0],[["s"],0]]})");
-    const auto other = REFUSED(folugben::error, step.has(n, 1));
-    WANTED(other.code() == code::shape && std::string(other.what()).find("the value is no set and no bag") != std::string::npos);
-    WANTED(REFUSED(folugben::error, step.size(n)).code() == code::shape);
+    WANTED(std::string(REFUSED(folugben::error, step.has(n, 1)).what()).find("the value is no set and no bag") != std::string::npos);
     const auto text = REFUSED(folugben::error, step.has(s, "\xc3"));
     WANTED(text.code() == code::shape && std::string(text.what()).find("the text isn't UTF-8") != std::string::npos);
     WANTED(REFUSED(folugben::error, step.has(s, folugben::set{1})).code() == code::operand);
-    bool any = true;
-    WANTED(step.any("s") && !step.any("none") && step.count("s") == 1 && step.count("none") == 0);
     WANTED(step.try_any("\xff", any) == code::shape && !any && step.try_count("\xff", size) == code::shape && size == 0);
     WANTED(REFUSED(folugben::error, step.any("\xff")).code() == code::shape);
     WANTED(agent.follow() == 0 && step.try_any("s", any) == code::done && any);
 }
 
+// A loop by hand begins again at a conflict, and at nothing else.
 void conflicts_are_played_again() {
     folugben::storage storage(R"([[["bag"],{"bag":[["e",1]]}]])", 100);
     folugben::agent one = storage.make_agent(0), other = storage.make_agent(1);
@@ -242,50 +231,15 @@ void rules_may_commit() {
 }
 
 void moves_are_united() {
-    folugben::storage storage(R"([[["n"],1],[["set"],{"set":[]}]])", 10);
-    folugben::agent agent = storage.make_agent(0);
-    folugben::location n("n"), set("set");
-    folugben::instructions one, other, none;
+    folugben::location n("n");
+    folugben::instructions one, none;
     one.inc(n, 2).put(folugben::location("x"), "a");
-    other.inc(n, 2).add(set, 1);
-    WANTED(none.unite(folugben::instructions()).size() == 0 && (none |= one).size() == 2 && one.size() == 2);
-    folugben::step step = agent.begin();
-    step.push(none);
-    folugben::instructions popped = step.pop_move();
-    step.push(other.unite(popped));
-    WANTED(other.size() == 3 && step.get(n).number() == 5 && step.get(set).as_set() == folugben::set{1});
-    WANTED(one.try_unite(one) == code::empty && one.size() == 2);
-    folugben::instructions many, moved = std::move(none);
-    for (int i = 0; i < 4095; ++i) many.inc(n, 1);
-    WANTED(REFUSED(folugben::error, many |= one).code() == code::long_move && many.size() == 4095);
-    WANTED(many.inc(n, 1).size() == 4096 && many.try_unite(none) == code::empty && none.try_unite(one) == code::empty);
-    WANTED(moved.try_unite(folugben::instructions()) == code::done && step.commit() == 1);
-}
-
-void stale_and_short_steps_are_played_again() {
-    folugben::storage storage(R"([[["count"],0],[["bag"],{"bag":[["e",1]]}]])", 100);
-    folugben::agent one = storage.make_agent(0), other = storage.make_agent(1);
-    folugben::location count("count"), bag("bag");
-    int tries = 0;
-    one.play([&](folugben::step &step) {
-        folugben::instructions move;
-        auto seen = step.get(count).number();
-        if (++tries < 12) other.play([&](folugben::step &it) { it.push(folugben::instructions().inc(count, 1)); });
-        step.push(move.put(count, seen + 1));
-    });
-    one.follow();
-    WANTED(tries == 12 && one.peek(count).number() == 12);
-
-    folugben::step step = one.begin();
-    step.push(folugben::instructions().bag_remove(bag, "e", 1));
-    folugben::step old = other.begin();
-    old.get(bag);
-    old.push(folugben::instructions().put(count, 0));
-    WANTED(step.commit() > 0);
-    WANTED(REFUSED(folugben::conflict, old.commit()).text() == R"({"stale":["bag"]})");
-    WANTED(REFUSED(folugben::clash, other.play([&](folugben::step &it) {
-               it.push(folugben::instructions().bag_remove(bag, "e", 1));
-           })).text() == R"({"clash":[["bag"],"Short"]})");
+    WANTED((none |= one).size() == 2 && one.size() == 2 && one.try_unite(one) == code::empty && one.size() == 2);
+    folugben::instructions moved = std::move(none);
+    WANTED(one.try_unite(none) == code::empty && none.try_unite(one) == code::empty);
+    WANTED(moved.try_unite(folugben::instructions()) == code::done && moved.size() == 2);
+    for (int i = 2; i < 4095; ++i) moved.inc(n, 1);
+    WANTED(REFUSED(folugben::error, moved |= one).code() == code::long_move && moved.size() == 4095);
 }
 
 void plays_end_with_their_patience() {
@@ -364,12 +318,11 @@ int main() {
     numbers_are_numbers();
     elements_are_in_the_order_of_the_storage();
     sets_bags_and_scans_are_read();
-    elements_are_counted();
+    what_is_no_set_and_no_element_is_said();
     conflicts_are_played_again();
     plays_return_what_their_rules_do();
     rules_may_commit();
     moves_are_united();
-    stale_and_short_steps_are_played_again();
     plays_end_with_their_patience();
     refusals_name_the_limit_and_range();
     refusals_name_the_fault();
