@@ -3,7 +3,7 @@ import unittest
 from collections import Counter
 
 import folugben
-from folugben import Code, Error, Location, ManyError, MovedError, OverError, StaleError, Storage, check, explore
+from folugben import Code, Error, Location, Storage, check, explore
 
 ELEMENTS = [None, True, False, 0, 1, -(2**63), "", "a", 'ä"\\\n\x00\U0001f600', "x" * 5000, (), (None, True, ("b", 1))]
 
@@ -41,40 +41,11 @@ class Members(unittest.TestCase):
         self.rival.give()
         self.assertEqual(check(self.storage.close_journal()), (1, 1))
 
-    def test_the_location_is_tracked(self):
-        for call in (lambda step: step.has("set", 9), lambda step: step.count_of("set", 1), lambda step: step.size("set")):
-            with self.agent.step() as step:
-                call(step)
-                self.assertEqual(step.offer()["reads"], ((("set",), step.number),))
-                step.put("x", 1)
-                self.rival.fire([("add", "set", 100 + step.number)])
-                self.assertRaises(StaleError, step.commit)
+    def test_a_function_has_a_name(self):
         with self.agent.step() as step:
-            step.put("set", {1})
-            self.assertTrue(step.has("set", 1))
-            self.assertEqual((step.size("set"), step.offer()["reads"]), (1, ()))
-            self.assertRaises(folugben.Error, step.size, "number")
-            self.assertEqual([at for at, _ in step.offer()["reads"]], [("number",)])
-            step.free()
-
-    def test_a_function_is_asked_and_counted(self):
-        with self.agent.step() as step:
-            self.assertEqual((step.any("counts"), step.any("none")), (True, False))
-            self.assertEqual((step.count("counts"), step.count("none")), (1, 0))
-            step.put(("none", 1), 2)
-            step.add("made", 1)
-            step.add("made", 2)
-            self.assertEqual((step.any("none"), step.count("none"), step.count("made")), (True, 1, 1))
             for call in (step.any, step.count):
                 self.assertEqual(self.code_of(call, "no name")[0], Code.SHAPE)
                 self.assertRaises(TypeError, call, ("counts", 1))
-            self.rival.fire([("put", ("counts", 2), 1)])
-            with self.assertRaises(StaleError) as stale:
-                step.commit()
-            self.assertEqual(stale.exception.at, ("counts", 2))
-            for call in (step.any, step.count):
-                self.assertRaises(MovedError, call, "counts")
-        self.assertRaises(OverError, step.any, "counts")
 
     def test_a_search_knows_what_was_asked(self):
         def take(call, number):
@@ -113,14 +84,7 @@ class Members(unittest.TestCase):
             for call, words in ((step.has, ("set",)), (step.count_of, ("set", 1, 2)), (step.size, ())):
                 self.assertRaises(TypeError, call, *words)
             self.assertRaises(TypeError, step.has, "set", [1])
-            self.assertRaises(ManyError, lambda: [step.size(("v", k)) for k in range(257)])
-            self.rival.fire([])
-            self.agent.follow()
-            self.assertRaises(MovedError, step.has, "set", 1)
-            self.assertRaises(MovedError, step.size, "set")
             step.free()
-            self.assertRaises(OverError, step.has, "set", 1)
-            self.assertRaises(OverError, step.size, "set")
             with Location("set") as at:
                 at.free()
                 with self.agent.step() as other:
@@ -142,12 +106,3 @@ class Members(unittest.TestCase):
             explored = folugben.explore(lambda: Storage({"count": 0, "seats": set()}, 9), [program(test)] * 3, at_end=lambda values: values["count",] == 1)
             self.assertTrue(explored.is_exhaustive, explored)
             self.assertGreater(explored.schedules, 1)
-
-    def test_recorded_commits_read_what_was_counted(self):
-        with Storage({"set": {1, 2}}, 9, record=True) as storage, storage.agent(0) as agent:
-            with agent.step() as step:
-                self.assertTrue(step.has("set", 1))
-                step.put("x", step.size("set"))
-                step.commit()
-            agent.give()
-            self.assertEqual(check(storage.close_journal()), (2, 1))

@@ -4,21 +4,10 @@ import unittest
 
 import own
 import random_moves
-from folugben import ClashError, Error, LargeError, aggregate, compose
-
-X = ["x"]
+from folugben import ClashError, LargeError, aggregate, compose
 
 
 class Moves(unittest.TestCase):
-
-    def test_a_refused_text_has_a_place(self):
-        for message, call, *arguments in [
-            ("4,097 instructions, at most 4,096", aggregate, [], [["put", X, 1]] * 4097),
-            ("instructions[0][2] is nan, which is no whole number: pass int(..) of it, or str(..)", aggregate, [], [["put", ["x"], float("nan")]]),
-        ]:
-            with self.subTest(message), self.assertRaises(Error) as caught:
-                call(*arguments)
-            self.assertEqual(str(caught.exception), message)
 
     def test_random_moves_do_in_sequence_what_the_model_does(self):
         moves, values = random_moves.model("moves"), random_moves.model("values")

@@ -112,6 +112,11 @@ class Odd(unittest.TestCase):
         self.assert_refused(TypeError, "value is [1], which is no value: pass a list as a tuple", move.put, "x", [1])
         self.assert_refused(TypeError, "init[0][1] is 1j, which is no whole number: pass int(..)", Storage, [[["x"], 1j]])
         self.assert_refused(Error, "place[1] is nan", Location, ["x", nan])
+        self.assert_refused(Error, "init[0][1] is nan", Storage, [[["x"], nan]])
+        self.assert_refused(Error, "reads[0][1] is nan", self.agent.stands, [[["x"], nan]])
+        self.assert_refused(Error, "instructions[0][2] is nan", self.agent.step().push, [["put", ["x"], nan]])
+        self.assert_refused(Error, "instructions[0][2] is nan", folugben.aggregate, [], [["put", ["x"], nan]])
+        self.assert_refused(Error, "isn't Unicode", self.agent.step().scan, "\ud800")
 
     def test_a_text_with_braces_is_a_text(self) -> None:
         self.agent.fire([["put", ["n"], '{"a":{']])

@@ -6,7 +6,7 @@ import json
 import unittest
 
 import folugben
-from folugben import Error, ManyError, Storage, check
+from folugben import Error, Storage, check
 from threads import in_threads
 
 COUNT = [["count"]]
@@ -18,11 +18,6 @@ class OwnState(unittest.TestCase):
         self.storage = Storage(STATE, 100)
         self.addCleanup(self.storage.free)
         self.agent, self.rival = self.storage.agent(0), self.storage.agent(1)
-
-    def code_of(self, call, *arguments):
-        with self.assertRaises(Error) as caught:
-            call(*arguments)
-        return caught.exception.code
 
     def test_scans_that_are_refused(self):
         where = "scan 2: "
@@ -44,35 +39,6 @@ class OwnState(unittest.TestCase):
                     call(wrong)
                 self.assertEqual(caught.exception.code, folugben.Code.SHAPE)
         self.assertEqual((self.agent.stands(iter([])), self.agent.fire([], (), ())), (None, 1))
-
-    def test_a_number_that_is_yet_to_come_is_refused(self):
-        message = "read 2: "
-        reads = [[["g"], 0], [["f", 1], 1]]
-        for call, *arguments in [(self.agent.fire, [], reads), (self.agent.stands, reads)]:
-            with self.assertRaises(Error) as caught:
-                call(*arguments)
-            self.assertEqual(str(caught.exception), message + '["f", 1] is named at 1, and the agent has seen 0')
-
-    def test_texts_longer_than_the_buffer(self):
-        long = "x" * 5000
-        self.rival.fire([["put", ["h", k], long] for k in range(20)])
-        self.assertEqual(self.agent.follow(), 1)
-        self.assertEqual(self.agent.peek([["h", 3]]), (1, [long]))
-        self.assertEqual(self.agent.scan("h"), (1, [(("h", k), long) for k in range(20)]))
-        self.assertEqual(len(self.agent.state()[1]), 24)
-        self.assertEqual(self.agent.peek(COUNT * 1000), (1, [0] * 1000))
-
-    def test_codes(self):
-        for message, call, *arguments in [
-            ("location 2: a location can't hold a bag", self.agent.peek, [["x"], ["y", {"bag": []}]]),
-            ("read 2: a read is a tuple or a list of a location and a number", self.agent.stands, [[["x"], 0], ["x"]]),
-            ("reads[0][1] is nan, which is no whole number: pass int(..) of it, or str(..)", self.agent.stands, [[["x"], float("nan")]]),
-        ]:
-            with self.subTest(message), self.assertRaises(Error) as caught:
-                call(*arguments)
-            self.assertEqual(str(caught.exception), message)
-        self.assertRaises(ManyError, self.agent.stands, [[["x"], 0]] * 257)
-        self.assertRaises(Error, self.agent.scan, "\ud800")
 
 
 class Next(unittest.TestCase):

@@ -200,8 +200,9 @@ class Messages(unittest.TestCase):
         with self.agent.step() as step:
             self.assert_message(folugben.ClashError, r'\["none"\], Kind: .* inc a number, and there is nothing$', step.inc, "none", 1)
             self.assert_message(folugben.ClashError, r'\["count"\], Kind: .* and there is 0$', step.add, "count", 1)
+            self.assert_message(folugben.ClashError, r'\["x"\], Two: two different values are put$', step.push, [("put", "x", 1), ("put", "x", 2)])
             self.assert_message(folugben.ClashError, "Both: an element is added to a set and removed", step.push, [("add", "set", 1), ("remove", "set", 1)])
-            self.assertEqual(step.offer()["reads"], ((("count",), 0), (("none",), 0), (("set",), 0)))
+            self.assertEqual(step.offer()["reads"], ((("count",), 0), (("none",), 0), (("set",), 0), (("x",), 0)))
 
     def test_names_that_are_none(self):
         for call in (self.agent.step().scan, lambda name: self.agent.fire([], scans=[(name, 0)])):

@@ -165,46 +165,31 @@ class Scopes(unittest.TestCase):
         self.assertEqual(outcomes, ["forked"] * 9 + ["1"])
         self.assertEqual(put(agent, 2), 1)
 
-    def test_an_agent_that_was_returned_is_checked_out_again(self):
-        first = self.storage.agent(3)
-        put(first, 1)
-        first.give()
-        self.storage.close_journal()
+    def test_an_agent_that_was_not_returned_is_named(self):
+        self.storage.agent(3).give()
         again = self.storage.take(3)
-        self.assertEqual((again.number, again.seen, again.won, put(again, 2)), (3, 1, 1, 2))
+        self.assertEqual(again.number, 3)
         for number, message in [(3, "agent 3 was not returned"), (4, "agent 4 was not returned"), (256, "numbers are below 256")]:
             with self.assertRaisesRegex(Error, message):
                 self.storage.take(number)
-        with self.assertRaises(Error) as caught:
-            self.storage.next()  # which needs another journal
-        self.assertEqual(caught.exception.code, folugben.Code.NO_JOURNAL)
-        again.give()
-        with self.storage.take(3) as third:
-            put(third, 3)
-        self.assertEqual(check(self.storage.close_journal()), (3, 3))
 
     def test_a_storage_continues_from_the_state_of_an_agent(self):
-        with Storage([[COUNT, 0]], 3) as storage:
+        with Storage([[COUNT, 0]], 1) as storage:
             first, second = storage.agent(0), storage.agent(1)
-            for value in (1, 2, 3):
-                put(first, value)
-            with self.assertRaisesRegex(Error, "is at version 0") as caught:
+            put(first, 3)
+            with self.assertRaisesRegex(Error, "is at version 0"):
                 second.go_on(5)
-            self.assertEqual(caught.exception.code, folugben.Code.NOT_FULL)
             second.follow()
             with second.go_on(5) as further, further.agent(0) as agent:
-                self.assertEqual(agent.read([COUNT]), (0, [3]))
                 put(agent, 4)
-                agent.give()
-                self.assertEqual(second.read([COUNT]), (3, [3]))
-                first.give()
-                second.give()
+                self.assertEqual(second.read([COUNT]), (1, [3]))
+                for held in agent, first, second:
+                    held.give()
                 run = storage.close_journal() + further.close_journal()
             auditor = folugben.Auditor()
             auditor.feed(run)
-            self.assertEqual(auditor.end(), (6, 4, 2))
-            for call in (second.go_on, lambda: storage.take(0).go_on(0)):
-                self.assertRaises(Error, call)
+            self.assertEqual(auditor.end(), (3, 2, 2))
+            self.assertRaises(Error, second.go_on)
 
     def test_next_refuses_moves_that_are_in_no_journal(self):
         with self.storage.agent(0) as agent:
@@ -225,27 +210,20 @@ class Scopes(unittest.TestCase):
         elsewhere = Storage([], 5)
         self.addCleanup(elsewhere.free)
         for regex, call in [
-            ("a capacity is 1 to 1,048,576, not 0", lambda: Storage([], 0)),
             ("a capacity is 1 to 1,048,576, not 1048577", lambda: self.storage.next(2**20 + 1)),
-            ("agent 256: numbers are below 256", lambda: self.storage.agent(256)),
             ("agent 0", lambda: self.storage.agent(0)),
             ("another|two storages", lambda: elsewhere.agent(0).learn(agent)),
             ("another|two storages", lambda: elsewhere.give(agent)),
             ("isn't Unicode", lambda: put(agent, "\ud800")),
-            ("isn't Unicode", lambda: agent.scan("\ud800")),
-            ("a number is", lambda: move.put(place, 2**63)),
             ("an amount is 1 to", lambda: move.bag_add(place, 1, 0)),
         ]:
             with self.subTest(regex), self.assertRaisesRegex(Error, regex):
                 call()
         for regex, call in [
             ("place is <Step", lambda: move.put(agent.step(), 8)),
-            (r"value is \[1\], which is no value: pass a list as a tuple", lambda: move.put(place, [1])),
             ("learns from an agent", lambda: agent.learn(self.storage)),
             ("accepts an agent", lambda: self.storage.give(None)),
             ("made before", lambda: self.storage.__init__([], 5)),
-            ("no value: values are", lambda: put(agent, object())),
-            ("a journal is bytes or a str", lambda: check(7)),
         ]:
             with self.subTest(regex), self.assertRaisesRegex(TypeError, regex):
                 call()

@@ -7,7 +7,7 @@ import unittest
 
 import folugben
 import own
-from folugben import Error, Location, ManyError, MovedError, OverError
+from folugben import Location, MovedError, OverError
 from folugben import StaleError, Storage, _refusals, check
 
 COUNT = [["count"]]
@@ -66,56 +66,6 @@ class Steps(unittest.TestCase):
             self.rival.fire(put(7, "f", 1))
             self.assertEqual((step.see(Location(["f", 1])), step.offer()["reads"], step.commit()), (1, (), 2))
 
-    def test_an_offer_is_fired(self):
-        with self.agent.step() as step:
-            step.get([["f", 2]])
-            step.push([["inc", ["f", 2], 1]])
-            offer = step.offer()
-        self.assertEqual(offer, {"fire": (("inc", ("f", 2), 1),), "reads": ((("f", 2), 0),)})
-        self.assertEqual(self.agent.fire(offer["fire"], offer["reads"]), 1)
-        self.assertRaises(StaleError, self.agent.fire, offer["fire"], offer["reads"])
-
-    def test_limits(self):
-        with self.agent.step() as step:
-            step.get([["x", k] for k in range(256)])
-            self.assertRaises(ManyError, step.get, [["y"]])
-            step.push([["inc", ["count"], 1]])
-            step.extend([["inc", ["count"], 1]])
-            self.assertRaises(ManyError, step.commit)
-            self.assertRaises(ManyError, step.pop)
-        with self.agent.step() as step:
-            step.push([["put", ["y", k], k] for k in range(4096)])
-            for grow in (step.push, step.extend):
-                self.assertRaises(ManyError, grow, put(1, "z"))
-
-    def test_refused_texts(self):
-        with self.agent.step() as step:
-            for message, call, *arguments in [
-                ("location 2: a location can't hold a bag", step.get, [["x"], ["y", {"bag": []}]]),
-                ("instruction 2: a set can't hold a set", step.push, put(1) + put({"set": [{"set": []}]})),
-                ("4,097 instructions, at most 4,096", step.extend, put(1) * 4097),
-                ("instructions[0][2] is nan, which is no whole number: pass int(..) of it, or str(..)", step.push, put(float("nan"))),
-            ]:
-                with self.subTest(message), self.assertRaises(Error) as caught:
-                    call(*arguments)
-                self.assertEqual(str(caught.exception), message)
-            self.assertRaises(Error, step.scan, "\ud800")
-            self.assertEqual(step.depth, 0)
-
-    def test_numbers_and_long_texts(self):
-        long, least = "x" * 5000, -(2**63)
-        with self.agent.step() as step:
-            step.push(put(long) + put(least, "g") + put(True, "h", 1) + put(1, "h", True))
-            self.assertEqual(step.get([["count"], ["g"]]), [long, least])
-            self.assertEqual(repr(step.scan("h")), repr([(("h", True), 1), (("h", 1), True)]))
-            self.assertEqual(step.scan("count"), [(("count",), long)])
-            step.commit()
-        with self.agent.step() as step:
-            step.get([["count"]])
-            step.push(put(long, "g"))
-            self.rival.fire(put(0))
-            self.assertRaises(StaleError, step.commit)
-
     def test_two_steps_of_one_agent(self):
         first, second = self.agent.step(), self.agent.step()
         first.push(put(1))
@@ -126,16 +76,6 @@ class Steps(unittest.TestCase):
         self.assertRaises(MovedError, first.get, COUNT)
         self.assertEqual(first.commit(), 2)
         self.assertEqual(self.rival.read([["count"], ["g"]]), (2, [1, 1]))
-
-    def test_an_agent_that_was_returned_has_no_step(self):
-        step = self.agent.step()
-        self.agent.give()
-        for call, *arguments in [(step.get, COUNT), (step.push, []), (step.commit,), (self.agent.step,)]:
-            with self.assertRaises(Error) as caught:
-                call(*arguments)
-            self.assertEqual((type(caught.exception), caught.exception.code), (Error, folugben.Code.EMPTY))
-        self.assertEqual(step.depth, 0)
-        step.free()
 
     def test_no_copy_shares_a_slot(self):
         with self.agent.step() as step:
@@ -179,40 +119,6 @@ class Steps(unittest.TestCase):
 class RecordedSteps(own.Recorded, Steps):
     # In that test two steps of one agent commit.
     test_two_steps_of_one_agent = None
-
-    def test_gets_and_a_fire_leave_one_receipt(self):
-        with self.agent.step() as step:
-            step.push(put(7, "g"))
-            step.get([["bag"], ["count"], ["g"], ["none"]])
-            step[["f", 2]]
-            step.see([["f", 1]])
-            step.scan("f")
-            step.commit()
-        with self.agent.step() as step:
-            step.get(COUNT)
-            self.rival.fire(put(5))
-            self.assertEqual(step.try_commit(), 0)
-        self.agent.give()
-        self.rival.give()
-        journal = self.storage.close_journal()
-        events = list(map(json.loads, journal.splitlines()[1:]))
-        places = [["bag"], ["count"], ["f", 2], ["none"]]
-        values = [{"bag": [["e", 1]]}, 0, 2, None]
-        self.assertEqual([(it["agent"], it["call"].get("read"), it["reply"]) for it in events], [
-            (0, places, {"number": 0, "values": values}), (0, None, {"fired": 1}),
-            (1, None, {"fired": 2}), (0, None, {"stale": ["count"]}),
-        ])
-        self.assertEqual(events[1]["call"], {"fire": put(7, "g"), "reads": [[at, 0] for at in places]})
-        self.assertEqual(folugben.check(journal), (3, 2))
-
-    def test_what_a_get_returned_is_judged(self):
-        self.agent.play(lambda step: step.put("g", step["f", 2]))
-        self.agent.give()
-        journal = self.storage.close_journal()
-        self.assertIn(b'"values":[2]', journal)
-        with self.assertRaises(folugben.BadJournalError) as caught:
-            check(journal.replace(b'"values":[2]', b'"values":[1]'))
-        self.assertEqual(caught.exception.call, 0)
 
     def test_a_get_that_returns_another_value_is_found(self):
         with Storage({"x": 1}, record=True) as storage, storage.agent(0) as agent:
