@@ -289,57 +289,6 @@ static void counts_moves(unsigned at) {
     REQUIRE(moves == (is_storage ? stories[accounts[at].storage].moves : 0));
 }
 
-/* The explanation of a text is empty exactly if its form is accepted. */
-static void explains(void) {
-    const text *t = any_text();
-    uint8_t out[ROOM];
-    size_t written = 9, room = below(2) ? sizeof out : 0;
-    int32_t form = (int32_t)below(7) - 1;
-    int32_t found = form == ASM_FORM_LOCATIONS ? t->locations
-                    : form == ASM_FORM_MOVE    ? t->fire
-                    : form == ASM_FORM_STATE   ? t->state
-                                               : ASM_SHAPE;
-    int32_t wanted = form < 0 || form > ASM_FORM_SCRIPT ? ASM_NO_FORM
-                     : found == ASM_DONE || room       ? ASM_DONE
-                                                       : ASM_SMALL;
-    REQUIRE(asm_explain(form, bytes(t), strlen(t->bytes), room ? out : NULL, room, &written) ==
-            wanted);
-    REQUIRE((written > 0) == (wanted != ASM_NO_FORM && found != ASM_DONE));
-}
-
-/* Checks, replays and traces a journal that is cut off, or has one changed bit. */
-static void judges(uint8_t *journal, size_t len) {
-    uint8_t state[ROOM];
-    size_t cut = below(2) ? len : below((unsigned)len), written;
-    uint64_t calls, line;
-    uint32_t moves;
-    REQUIRE(asm_check(journal, len, &calls, &moves) == ASM_DONE);
-    journal[below((unsigned)len)] ^= (uint8_t)(1u << below(8));
-    int32_t code = asm_check(journal, cut, &calls, &moves);
-    REQUIRE(code == ASM_DONE || (code >= ASM_ILLEGAL && code <= ASM_CUT));
-    int32_t left = asm_replay(journal, cut, state, below(2) ? sizeof state : 0, &written, &line);
-    if (code == ASM_DONE || code == ASM_ILLEGAL)
-        REQUIRE(left == ASM_DONE || left == ASM_SMALL);
-    else
-        REQUIRE(left == code && written == 0 && (line == calls));
-    REQUIRE(asm_trace(journal, cut, state, 0, &written, &line) ==
-            (code == ASM_DONE || code == ASM_ILLEGAL ? ASM_SMALL : code));
-}
-
-static void writes(unsigned at) {
-    uint8_t journal[ROOM];
-    size_t written = 9, room = below(4) ? sizeof journal : 0;
-    bool has_journal = stories[accounts[at].storage].is_closed;
-    int32_t wanted = accounts[at].kind != STORAGE ? ASM_EMPTY
-                     : has_journal                ? ASM_DONE
-                                                  : ASM_NO_JOURNAL;
-    int32_t code = asm_journal(ANY(at), room ? journal : NULL, room, &written);
-    REQUIRE(code == wanted || (wanted == ASM_DONE && code == ASM_SMALL && written > room));
-    REQUIRE((written > 0) == (wanted == ASM_DONE));
-    if (code == ASM_DONE)
-        judges(journal, written);
-}
-
 void frees(unsigned at) {
     asm_free(ANY(at));
     REQUIRE(slots[at].at == NULL);

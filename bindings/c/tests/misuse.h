@@ -142,6 +142,9 @@ world opening_world(const text *state);
 const char *text_of_s(world w);
 const char *text_of_v(world w);
 
+/* The text of the state, or of the part of it with one of the names. */
+const char *pairs(world w, bool has_both, bool has_x, bool has_y);
+
 /* Any room. */
 buffer any_buffer(void);
 
@@ -177,6 +180,18 @@ void commits(unsigned at, unsigned of_step);
 
 /* One call without text. */
 void calls_any_plain(unsigned at, unsigned other);
+
+/* Feeds an audit, and ends it. */
+void audits(unsigned at);
+void ends_audit(unsigned at);
+
+/* Calls on moves without an agent. */
+void aggregates(void);
+void composes(void);
+
+/* Explains a text, and writes a storage's journal, which is then altered and judged. */
+void explains(void);
+void writes(unsigned at);
 
 /* One call on a step or of an agent's polls, or on moves without an agent. */
 void calls_any_step(unsigned at, unsigned other);

@@ -1,4 +1,4 @@
-/* The calls of misuse on steps, of an agent's polls, and on moves without an agent. */
+/* The calls of misuse on steps and of an agent's polls. */
 #include "misuse.h"
 
 buffer any_buffer(void) { return (buffer){.room = below(3) ? ROOM : below(12), .written = 9}; }
@@ -26,8 +26,7 @@ static const char *values(unsigned number, const text *locations, world w) {
     return out;
 }
 
-/* The text of the state, or of the part of it with one of the names. */
-static const char *pairs(world w, bool has_both, bool has_x, bool has_y) {
+const char *pairs(world w, bool has_both, bool has_x, bool has_y) {
     static char out[ROOM];
     char parts[PLACES][64] = {"", "", "", ""};
     size_t length = 1;
@@ -310,67 +309,6 @@ static void opens_next_from_agent(unsigned at, unsigned next) {
     REQUIRE(asm_go_on(ANY(at), capacity, ANY(next)) == wanted);
     if (wanted == ASM_DONE)
         makes_storage_at(next, capacity, own_world(a));
-}
-
-/* An audit accepts the beginning of a line, and no line feed. */
-static void audits(unsigned at) {
-    account *a = &accounts[at];
-    asm_audit_numbers audited = {9, 9, 9};
-    size_t len = below(3), taken = 9;
-    bool has_room = a->kind == NOTHING || a->kind == AUDIT;
-    REQUIRE(asm_audit(ANY(at), len ? (const uint8_t *)"{\"" : NULL, len, &taken, &audited) ==
-            (has_room ? ASM_DONE : ASM_TAKEN));
-    REQUIRE(taken == (has_room ? len : 0));
-    REQUIRE(audited.parts == 0 && audited.calls == 0 && audited.moves == 0);
-    if (a->kind == NOTHING)
-        *a = (account){.kind = AUDIT};
-    if (a->kind == AUDIT)
-        a->has_begun |= len > 0;
-}
-
-static void ends_audit(unsigned at) {
-    const account *a = &accounts[at];
-    asm_audit_numbers audited = {9, 9, 9};
-    buffer b = any_buffer();
-    REQUIRE(asm_audited(ANY(at), &audited) == (a->kind != AUDIT ? ASM_EMPTY
-                                               : a->has_begun   ? ASM_NOT_JSON
-                                                                : ASM_CUT));
-    REQUIRE(audited.parts == 0 && audited.moves == 0);
-    REQUIRE(audited.calls == (a->kind == AUDIT && a->has_begun));
-    is_written(asm_audit_state(ANY(at), OUT(b)),
-               (struct outcome){a->kind == AUDIT ? ASM_NO_PART : ASM_EMPTY, NULL}, &b);
-}
-
-static void aggregates(void) {
-    const text *state = any_text(), *t = any_text();
-    world w = opening_world(state);
-    buffer b = any_buffer();
-    outcome wanted = {state->state ? state->state : t->move, NULL};
-    if (wanted.code == ASM_DONE && !applies_to(t, &w))
-        wanted = (outcome){ASM_CLASH, "{\"clash\":[[\"x\"],\"Kind\"]}"};
-    else if (wanted.code == ASM_DONE)
-        wanted.text = pairs(w, false, t->does == RAISE_X, t->does == PUT_Y);
-    is_written(
-        asm_aggregate(bytes(state), strlen(state->bytes), bytes(t), strlen(t->bytes), OUT(b)),
-        wanted, &b);
-}
-
-static void composes(void) {
-    const text *first = any_text(), *second = any_text();
-    int raises = (first->does == RAISE_X) + (second->does == RAISE_X);
-    bool puts = first->does == PUT_Y || second->does == PUT_Y;
-    char raise[32] = "", composed[ROOM];
-    buffer b = any_buffer();
-    outcome wanted = {first->move ? first->move : second->move, NULL};
-    if (raises)
-        snprintf(raise, sizeof raise, "[\"inc\",[\"x\"],%d]", raises);
-    snprintf(composed, sizeof composed, "[%s%s%s]", raise, raises && puts ? "," : "",
-             puts ? "[\"put\",[\"y\",1],2]" : "");
-    if (wanted.code == ASM_DONE)
-        wanted.text = composed;
-    is_written(asm_compose(bytes(first), strlen(first->bytes), bytes(second), strlen(second->bytes),
-                           OUT(b)),
-               wanted, &b);
 }
 
 bool have_meaning(unsigned at, unsigned of_step) {
