@@ -87,58 +87,6 @@ fn a_rule_error_ends_its_play_and_fires_nothing() {
 }
 
 #[test]
-fn a_removal_that_is_short_by_now_is_played_again() {
-    let bag = |n| Value::Bag(BTreeMap::from([(Element::from("apple"), n)]));
-    let shelf = Location::new("shelf");
-    let storage = open(&[(shelf.clone(), bag(1))]);
-    let (mut one, mut other) = (storage.agent(0).unwrap(), storage.agent(1).unwrap());
-    let take = Move::new().bag_remove(&shelf, "apple", 1);
-    let mut step = one.step().unwrap();
-    step.push(&take).unwrap();
-    other.play(|step| step.push(&take)).unwrap();
-    // A clash of the fire is a conflict, and one of a push is none.
-    assert_eq!(step.commit(), Err(Conflict::Clash { at: shelf.clone(), cause: Cause::Short }.into()));
-    let again = one.play(|step| step.push(&take));
-    assert_eq!(again.unwrap_err(), Error::Clash { at: shelf, cause: Cause::Short });
-}
-
-#[test]
-fn values_of_each_kind_come_back() {
-    let elements = [
-        Element::Undef,
-        true.into(),
-        (-3).into(),
-        "a \"b\" \\ \u{1}\n é".into(),
-        Element::List(vec![Element::List(vec![]), 1.into()]),
-    ];
-    let values = [
-        Value::Undef,
-        false.into(),
-        i64::MIN.into(),
-        elements[3].clone().into(),
-        elements[4].clone().into(),
-        Value::Set(elements.iter().cloned().collect()),
-        Value::Bag(elements.iter().cloned().map(|it| (it, u32::MAX)).collect()),
-    ];
-    let storage = open(&[]);
-    let mut agent = storage.agent(0).unwrap();
-    for (i, value) in values.iter().enumerate() {
-        let at = Location::new("f").arg(i64::try_from(i).unwrap()).args_of(elements.iter().cloned());
-        agent.play(|step| step.put(&at, value.clone())).unwrap();
-        agent.follow().unwrap();
-        let result = agent.peek(std::slice::from_ref(&at)).unwrap();
-        assert_eq!((result.values.len(), &result.values[0]), (1, value));
-        let prepared = Prepared::new(&at).unwrap();
-        assert_eq!(agent.peek_at(&prepared).unwrap().1, *value);
-        assert_eq!(agent.step().unwrap().get(&prepared).unwrap(), *value);
-    }
-    let found = agent.step().unwrap().scan("f").unwrap();
-    assert_eq!(found.len(), values.len() - 1);
-    assert_eq!(agent.scan("f").unwrap().1, found);
-    assert!(found.is_sorted_by_key(|(at, _)| at));
-}
-
-#[test]
 fn prepared_moves_count_and_refuse_instructions() {
     let storage = open(&[]);
     let mut agent = storage.agent(0).unwrap();
@@ -161,23 +109,6 @@ fn prepared_moves_count_and_refuse_instructions() {
         step.extend_prepared(&gathered).unwrap();
         assert_eq!((step.depth(), gathered.len()), (depth, 0));
     }
-}
-
-#[test]
-fn an_offer_is_fired() {
-    let other_place = Location::new("other").arg(true);
-    let storage = open(&[(count(), 1.into())]);
-    let (mut one, mut other) = (storage.agent(0).unwrap(), storage.agent(1).unwrap());
-    let mut step = one.step().unwrap();
-    step.push(&Move::new().inc(count(), 2)).unwrap();
-    assert_eq!(step.see(&[count(), other_place.clone()]).unwrap(), [3.into(), Value::Undef]);
-    step.get(&other_place).unwrap();
-    let (instructions, reads) = step.offer().unwrap();
-    assert_eq!((&instructions, &reads), (&Move::new().inc(count(), 2), &vec![(other_place.clone(), n(0))]));
-    drop(step);
-    assert_eq!(one.fire(&instructions, &reads), Ok(n(1)));
-    other.play(|step| step.put(&other_place, 1)).unwrap();
-    assert_eq!(one.fire(&instructions, &reads), Err(stale(other_place)));
 }
 
 #[test]

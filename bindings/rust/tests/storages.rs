@@ -1,13 +1,7 @@
 //! Storages: how agents come back, what is refused, and journals.
-mod common;
-
-use common::Draw;
-use folugben::{
-    Agent, Element, Error, Journal, JournalError, Legality, Limit, Location, Move, MoveNumber, Prepared, Storage, Value,
-};
+use folugben::{Agent, Element, Error, Journal, JournalError, Legality, Limit, Location, Move, MoveNumber, Storage};
 use std::cell::RefCell;
-use std::collections::{BTreeMap, BTreeSet};
-use std::{slice, thread};
+use std::thread;
 
 fn count() -> Location {
     Location::new("count")
@@ -68,31 +62,16 @@ fn refusals_say_what_is_wrong() {
     let places: Vec<Location> = (0..257).map(|i| Location::new("f").arg(i)).collect();
     assert_eq!(agent.read(&places), Err(Error::Many(Limit::Places(Some(257)))));
     assert_eq!(agent.step().unwrap().get_each(&places).err(), Some(Error::Many(Limit::Places(None))));
-    let mut step = agent.step().unwrap();
-    assert_eq!(step.pop(), Err(Error::NoMove));
-    for _ in 0..64 {
-        step.push(&Move::new()).unwrap();
-    }
-    assert_eq!(step.push(&Move::new()), Err(Error::Deep));
 }
 
 #[test]
-fn journals_are_judged() {
-    let storage = Storage::open([], 10).unwrap();
-    let mut agent = storage.agent(0).unwrap();
-    agent.play(|step| step.put(count(), 1)).unwrap();
-    drop(agent);
-    let journal = storage.close().unwrap();
+fn journals_are_written_and_traced() {
+    let journal = Storage::open([], 10).unwrap().close().unwrap();
     let mut text = Vec::new();
     journal.write_to(&mut text).unwrap();
     assert_eq!(text, journal.as_bytes());
     assert!(journal.trace().unwrap().starts_with(b"{"));
-    let with = |from: &str, to: &str| Journal::from(String::from_utf8_lossy(&text).replace(from, to).into_bytes());
-    assert_eq!(with("\"fired\":1", "\"fired\":2").check(), Ok(Legality::Illegal { call: 0 }));
-    assert_eq!(with("\"put\"", "\"putt\"").check(), Err(JournalError::Shape(2)));
-    assert_eq!(with("\"version\":2", "\"version\":7").check(), Err(JournalError::Version));
-    assert_eq!(Journal::from(text[..text.len() - 1].to_vec()).check(), Err(JournalError::Cut));
-    assert_eq!(Journal::from(b"{\n".to_vec()).replay(), Err(JournalError::NotJson(1)));
+    assert_eq!(Journal::from(b"{\n".to_vec()).trace(), Err(JournalError::NotJson(1)));
 }
 
 #[test]
@@ -134,120 +113,10 @@ fn calls_are_made_as_a_thread_ends() {
     assert_eq!(storage.close().unwrap().replay().unwrap(), [(count(), 8.into())]);
 }
 
-/// The JSON of elements and of a value, written independently of the crate.
-fn json_of(items: &[Element]) -> String {
-    let one = |it: &Element| match it {
-        Element::Undef => "null".to_owned(),
-        Element::Bool(it) => it.to_string(),
-        Element::Num(it) => it.to_string(),
-        Element::Text(it) => format!("\"{}\"", it.replace('\\', "\\\\").replace('"', "\\\"")),
-        Element::List(items) => format!("{{\"list\":[{}]}}", json_of(items)),
-        other => panic!("{other:?}"),
-    };
-    items.iter().map(one).collect::<Vec<_>>().join(",")
-}
-
-fn json(value: &Value) -> String {
-    match value {
-        Value::Undef => "null".to_owned(),
-        Value::Bool(it) => it.to_string(),
-        Value::Num(it) => it.to_string(),
-        Value::Text(it) => json_of(&[it.as_str().into()]),
-        Value::List(it) => json_of(&[it.clone().into()]),
-        Value::Set(it) => format!("{{\"set\":[{}]}}", json_of(&it.iter().cloned().collect::<Vec<_>>())),
-        Value::Bag(it) => {
-            let pair = |(it, count): (&Element, &u32)| format!("[{},{count}]", json_of(slice::from_ref(it)));
-            format!("{{\"bag\":[{}]}}", it.iter().map(pair).collect::<Vec<_>>().join(","))
-        }
-        other => panic!("{other:?}"),
-    }
-}
-
-/// Values of all kinds.
-fn values() -> Vec<Value> {
-    let items = [Element::Undef, true.into(), (-7).into(), "a \"\\ä".into(), vec![Element::from(1)].into()];
-    let mut all: Vec<Value> = items.iter().cloned().map(Value::from).collect();
-    all.extend([i64::MIN.into(), i64::MAX.into(), false.into(), "".into()]);
-    all.push(Value::Set(BTreeSet::from(items.clone())));
-    all.push(Value::Bag(items.into_iter().zip([1, 2, 3, 4, u32::MAX]).collect::<BTreeMap<_, _>>()));
-    all
-}
-
-fn place(number: u64) -> Location {
-    Location::new("x").arg(i64::try_from(number).unwrap())
-}
-
-/// Commits steps that get some places and put to one; returns the lines that a journal must have of what those got that fired,
-/// without their numbers.
-fn recorded_steps(mut agent: Agent, values: &[Value]) -> Vec<String> {
-    let (number, most) = (agent.number(), values.len() as u64);
-    let mut draw = Draw(77 + u64::from(number.get()));
-    let mut one = || {
-        let mut step = agent.step().unwrap();
-        let mut returned = BTreeMap::new();
-        for _ in 0..draw.below(4) {
-            let at = place(draw.below(most));
-            let value = match draw.below(3) {
-                0 => step.get(&at).unwrap(),
-                1 => step.get_each(slice::from_ref(&at)).unwrap().remove(0),
-                _ => step.get(Prepared::new(&at).unwrap()).unwrap(),
-            };
-            returned.insert(at.args().to_vec(), value);
-        }
-        let value = values[usize::try_from(draw.below(most)).unwrap()].clone();
-        step.put(place(draw.below(most)), value).unwrap();
-        let read: Vec<_> = step.offer().unwrap().1.into_iter().map(|(at, _)| at.args().to_vec()).collect();
-        assert_eq!(read.len(), returned.len());
-        let places: Vec<_> = read.iter().map(|it| format!("[\"x\",{}]", json_of(it))).collect();
-        let seen: Vec<_> = read.iter().map(|it| json(&returned[it])).collect();
-        let (places, seen) = (places.join(","), seen.join(","));
-        let result = step.commit();
-        assert!(result.as_ref().map_or_else(Error::is_retry, |_| true));
-        let line = format!("{{\"agent\":{number},\"call\":{{\"read\":[{places}]}},\"reply\":{{\"values\":[{seen}]}}}}");
-        (result.is_ok() && !read.is_empty()).then_some(line)
-    };
-    (0..200).filter_map(|_| one()).collect()
-}
-
-/// The reads of an agent that a journal has before its fired moves, without their numbers.
-fn reads_of_fired(journal: &str, agent: usize) -> Vec<String> {
-    let (mut reads, mut last) = (vec![], None);
-    let begin = format!("{{\"agent\":{agent},");
-    for line in journal.lines().filter(|it| it.starts_with(&begin)) {
-        if line.contains("\"reply\":{\"fired\":") {
-            reads.extend(last.take());
-        }
-        last = line.contains("\"call\":{\"read\":").then(|| {
-            let (before, after) = line.split_once("\"number\":").unwrap();
-            before.to_owned() + after.split_once(',').unwrap().1
-        });
-    }
-    reads
-}
-
-#[test]
-fn journals_record_what_gets_return() {
-    let values = values();
-    let state = values.iter().zip(0..).map(|(it, number)| (place(number), it.clone()));
-    let storage = Storage::open(state, 1_000).unwrap();
-    storage.set_recording(true);
-    let wanted: Vec<_> = thread::scope(|threads| {
-        let works = storage.agents(4).unwrap().into_iter().map(|it| threads.spawn(|| recorded_steps(it, &values)));
-        let works: Vec<_> = works.collect();
-        works.into_iter().map(|it| it.join().unwrap()).collect()
-    });
-    let journal = storage.close().unwrap();
-    assert!(journal.check().unwrap().is_legal());
-    let text = String::from_utf8(journal.into_bytes()).unwrap();
-    for (number, wanted) in wanted.iter().enumerate() {
-        assert_eq!(reads_of_fired(&text, number), *wanted);
-    }
-}
-
 /// How many reads the journal has once the agent has committed a step that gets, sees and scans.
 fn recorded(storage: &Storage, mut agent: Agent) -> usize {
     let played = agent.play(|step| {
-        step.see(&[place(1)])?;
+        step.see(&["x".into()])?;
         step.scan("y")?;
         step.put(count(), step.get(count())?)
     });
