@@ -194,7 +194,8 @@ enum asm_code {
     ASM_DAMAGED = 41,    /* not the text that was saved: asm_run_end */
     ASM_COUNTS = 42,     /* a segment has other counts than its name says: asm_run_end */
     ASM_LONG_RUN = 43,   /* 100,000,000 segments, or 2^64 moves or more */
-    ASM_ONE_SEGMENT = 44 /* the only segment of a run isn't dropped: asm_run_drop */
+    ASM_ONE_SEGMENT = 44, /* the only segment of a run isn't dropped: asm_run_drop */
+    ASM_NO_INSTRUCTION = 45 /* the move has no instruction at this place: asm_move_at */
 };
 
 /* Writes what a code means, in a line of English. ASM_SMALL. */
@@ -579,6 +580,26 @@ FOLUGBEN_NODISCARD int32_t asm_instruct(struct asm_move *move, struct asm_locati
  * holds something else), before all others; ASM_EMPTY (`other` holds something else, or the two slots
  * are one); ASM_LONG_MOVE (the two have more than 4,096 instructions together); ASM_MEMORY. */
 FOLUGBEN_NODISCARD int32_t asm_unite(struct asm_move *move, struct asm_move *other);
+
+/* How many instructions the move has; 0 for a slot without a move. */
+uint32_t asm_move_length(struct asm_move *move);
+
+/* An instruction without its texts, by the words that asm_instruct takes. */
+typedef struct asm_instruction {
+    int32_t verb;    /* an asm_verb */
+    uint32_t amount; /* of ASM_BAGADD and ASM_BAGREMOVE; 0 of any other verb */
+    int32_t kind;    /* of the operand, an asm_kind */
+    int64_t number;  /* of the operand, as in asm_value */
+    size_t place;    /* how many of the bytes that were written are the location's */
+} asm_instruction;
+
+/* Returns the instruction at a place of the move, counted from 0: of a gathered move in the order of
+ * gathering. `place` bytes of the text are LOC, and those behind it the bytes of the operand, as
+ * asm_get_at writes those of a value. Everything in `*found` is 0 with each code except ASM_DONE.
+ * ASM_EMPTY, ASM_NO_INSTRUCTION (the move has `number` instructions or fewer), ASM_SMALL,
+ * ASM_MEMORY. */
+FOLUGBEN_NODISCARD int32_t asm_move_at(struct asm_move *move, uint32_t number,
+    asm_instruction *found, uint8_t *out, size_t room, size_t *written);
 
 /* As asm_push and asm_extend, with the move in a slot, which stays there until asm_free_move. ASM_EMPTY:
  * one of the slots; an empty one has no move, not one of no instructions. */

@@ -114,6 +114,7 @@ enum class [[nodiscard]] code : std::int32_t {
     counts = ASM_COUNTS,
     long_run = ASM_LONG_RUN,
     one_segment = ASM_ONE_SEGMENT,
+    no_instruction = ASM_NO_INSTRUCTION,
 };
 
 // Returns what a code means, in a line of English.
@@ -731,15 +732,60 @@ class operand {
     std::string own_; // of a list, a set or a bag
 };
 
-// A move, gathered instruction by instruction. A refused instruction leaves it unchanged. What is popped into it counts as one
-// instruction, and more can be gathered after that.
+// An instruction of a move: what it does at which location, with which operand. The amount is that of a bag, and else 0.
+struct instruction {
+    asm_verb verb{};
+    std::string name;
+    list args;
+    folugben::value value;
+    std::uint32_t amount{};
+    location at() const { return location(name, args); }
+};
+
+// A move, gathered instruction by instruction. A refused instruction leaves it unchanged. More can be gathered after what is popped
+// into it. It is a range of its instructions.
 class instructions {
   public:
+    // Stands at an instruction; a change of the move ends it.
+    class iterator {
+      public:
+        using value_type = instruction;
+        using difference_type = std::ptrdiff_t;
+        using iterator_concept = std::input_iterator_tag;
+        instruction operator*() const { return (*of_)[place_]; }
+        iterator &operator++() noexcept {
+            ++place_;
+            return *this;
+        }
+        void operator++(int) noexcept { ++place_; }
+        friend bool operator==(const iterator &one, const iterator &other) noexcept = default;
+
+      private:
+        friend class instructions;
+        const instructions *of_ = nullptr;
+        std::uint32_t place_ = 0;
+    };
+    iterator begin() const noexcept { return at(0); }
+    iterator end() const noexcept { return at(static_cast<std::uint32_t>(size())); }
+    // Returns the instruction at a place, from 0 on; code::no_instruction if there is none.
+    instruction operator[](std::size_t place) const {
+        if (place >= size()) detail::fail(code::no_instruction, "");
+        asm_instruction found{};
+        std::string text;
+        const auto number = static_cast<std::uint32_t>(place);
+        detail::done(detail::text_of_call([&](auto *out, auto room, auto *written) {
+            return asm_move_at(slot_.get(), number, &found, out, room, written);
+        }, text));
+        instruction it{static_cast<asm_verb>(found.verb), {}, {}, value({found.kind, found.number}, text.substr(found.place)), found.amount};
+        detail::reader from(text);
+        from.expect("[");
+        it.name = from.text();
+        while (from.skip(",")) it.args.push_back(from.element());
+        return it;
+    }
     [[nodiscard]] code try_instruct(asm_verb verb, const location &at, const operand &what, std::uint32_t amount = 0) noexcept {
         if (!slot_) return code::empty;
-        const code it = what.into(slot_.get(), at, verb, amount);
-        size_ += it == code::done;
-        return it;
+        return what.into(slot_.get(), at, verb, amount);
     }
     instructions &put(const location &at, const operand &what) { return with(ASM_PUT, at, what); }
     instructions &add(const location &at, const operand &what) { return with(ASM_ADD, at, what); }
@@ -751,10 +797,8 @@ class instructions {
     // code::long_move; itself, or what was moved from, is code::empty; then nothing changes.
     [[nodiscard]] code try_unite(const instructions &other) noexcept {
         if (!slot_ || !other.slot_ || &other == this) return code::empty;
-        if (other.size_ == 0) return code::done;
-        const code it{asm_unite(slot_.get(), other.slot_.get())};
-        if (it == code::done) size_ += other.size_;
-        return it;
+        if (other.size() == 0) return code::done;
+        return code{asm_unite(slot_.get(), other.slot_.get())};
     }
     instructions &unite(const instructions &other) {
         const code it = try_unite(other);
@@ -764,10 +808,9 @@ class instructions {
     instructions &operator|=(const instructions &other) { return unite(other); }
     instructions &clear() noexcept {
         asm_free_move(slot_.get());
-        size_ = 0;
         return *this;
     }
-    std::size_t size() const noexcept { return size_; }
+    std::size_t size() const noexcept { return asm_move_length(slot_.get()); }
     struct asm_move *get() const noexcept { return slot_.get(); }
 
   private:
@@ -779,8 +822,13 @@ class instructions {
         detail::done(it, detail::is_refused(it) ? what.refusal() : std::string());
         return *this;
     }
+    iterator at(std::uint32_t place) const noexcept {
+        iterator it;
+        it.of_ = this;
+        it.place_ = place;
+        return it;
+    }
     detail::owned_slot<struct asm_move> slot_;
-    std::size_t size_ = 0;
 };
 
 class agent;
@@ -1027,9 +1075,7 @@ class step {
     // Does the same; the one move that does what the popped ones do in turn replaces the content of `move`.
     [[nodiscard]] code try_pop_move(instructions &move) noexcept {
         if (!move.slot_) return code::empty;
-        const code it{asm_pop_move(slot_.get(), move.get())};
-        if (it == code::done) move.size_ = 1;
-        return it;
+        return code{asm_pop_move(slot_.get(), move.get())};
     }
     instructions pop_move() {
         instructions move;

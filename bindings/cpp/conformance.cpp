@@ -171,10 +171,18 @@ class replayer {
         }
         return "null";
     }
+    static constexpr std::array<const char *, 6> verbs = {"put", "add", "remove", "bagadd", "bagremove", "inc"};
     static asm_verb verb(const std::string &word) {
-        static const std::map<std::string, asm_verb> verbs = {{"put", ASM_PUT}, {"add", ASM_ADD}, {"remove", ASM_REMOVE},
-            {"bagadd", ASM_BAGADD}, {"bagremove", ASM_BAGREMOVE}, {"inc", ASM_INC}};
-        return verbs.at(word);
+        return static_cast<asm_verb>(std::find(verbs.begin(), verbs.end(), word) - verbs.begin());
+    }
+    std::string instructions(const words &of) {
+        std::string all;
+        for (const folugben::instruction &it : move(of[0])) {
+            all.append(all.empty() ? "[[\"" : ",[\"").append(verbs.at(it.verb)).append("\",");
+            all.append(folugben::detail::json_of(it.name, it.args)).append(",").append(json(it.value));
+            all.append(it.amount ? "," + std::to_string(it.amount) : "").append("]");
+        }
+        return all.empty() ? "[]" : all + "]";
     }
     static asm_kind kind(const std::string &json) {
         return json.starts_with("{\"list\"") ? ASM_KIND_LIST : json.starts_with("{\"set\"") ? ASM_KIND_SET : ASM_KIND_BAG;
@@ -302,6 +310,7 @@ class replayer {
         {"extend_move", [this](const words &of) { return step(of).extend(move(of[1])), "null"; }},
         {"pop_move", [this](const words &of) { return pop_move(of); }},
         {"gather", [this](const words &of) { return gather(of); }},
+        {"instructions", [this](const words &of) { return instructions(of); }},
         {"unite", [this](const words &of) { return move(of[0]).unite(move(of[1])), "null"; }},
         {"drop", [this](const words &of) { return moves_.erase(number(of[0])), "null"; }},
         {"get_all", [this](const words &of) { return step(of).scan_json(text(of[1])); }},

@@ -6,6 +6,7 @@
 #include <cstdio>
 #include <memory>
 #include <new>
+#include <ranges>
 #include <string>
 #include <type_traits>
 #include <utility>
@@ -242,6 +243,28 @@ void moves_are_united() {
     WANTED(REFUSED(folugben::error, moved |= one).code() == code::long_move && moved.size() == 4095);
 }
 
+static_assert(std::ranges::input_range<folugben::instructions>);
+
+void moves_are_ranges() {
+    folugben::location x("x"), f("f", 1, "a", folugben::list{true}), s("s");
+    folugben::instructions move;
+    WANTED(move.begin() == move.end());
+    move.put(f, folugben::bag{{"e", 2}}).bag_remove(x, "\"\\", UINT32_MAX).inc(s, -1).put(x, nullptr).put(x, "");
+    std::vector<asm_verb> verbs;
+    for (const folugben::instruction &it : move) verbs.push_back(it.verb);
+    WANTED(verbs == std::vector<asm_verb>({ASM_PUT, ASM_BAGREMOVE, ASM_INC, ASM_PUT, ASM_PUT}));
+    WANTED(move[0].name == "f" && move[0].args == folugben::list({1, "a", folugben::list{true}}) && move[0].amount == 0);
+    WANTED(move[0].value.as_bag() == folugben::bag{{"e", 2}} && move[1].value.text() == "\"\\" && move[1].amount == UINT32_MAX);
+    WANTED(move[2].value.number() == -1 && move[3].value.is_undef() && move[4].value.kind() == ASM_KIND_TEXT && move[4].args.empty());
+    WANTED(REFUSED(folugben::error, move[5]).code() == code::no_instruction);
+    folugben::storage storage("[]", 10);
+    folugben::agent agent = storage.make_agent(0);
+    folugben::step step = agent.begin();
+    const folugben::instruction first = move[0];
+    step.push(folugben::instructions().put(first.at(), first.value));
+    WANTED(step.get(f).as_bag() == folugben::bag{{"e", 2}});
+}
+
 void plays_end_with_their_patience() {
     using namespace std::chrono_literals;
     folugben::storage storage(COUNT, 100);
@@ -323,6 +346,7 @@ int main() {
     plays_return_what_their_rules_do();
     rules_may_commit();
     moves_are_united();
+    moves_are_ranges();
     plays_end_with_their_patience();
     refusals_name_the_limit_and_range();
     refusals_name_the_fault();

@@ -342,10 +342,10 @@ static bool is_answered(char *line, size_t len) {
     return is_right;
 }
 
-/* The journal of agents that record has their reads too, and the length of a move is no call of C. */
+/* The journal of agents that record has their reads too. */
 static bool is_left_out(const char *line) {
-    const char *other = is_recording ? "[\"lines\"" : "[\"recorded\"", *length = "[\"length\"";
-    return !strncmp(line, other, strlen(other)) || !strncmp(line, length, strlen(length));
+    const char *other = is_recording ? "[\"lines\"" : "[\"recorded\"";
+    return !strncmp(line, other, strlen(other));
 }
 
 /* Makes the calls of a table; returns how many lines it has. */

@@ -108,6 +108,37 @@ static void write_value(asm_value value) {
     }
 }
 
+/* Writes each instruction of the move. */
+static int32_t list_move(void) {
+    static const char *const verbs[] = {"put", "add", "remove", "bagadd", "bagremove", "inc"};
+    struct word all = {slot(LINE), 0};
+    uint32_t length = asm_move_length(move_at(0)), place = 0;
+    int32_t code = ASM_DONE;
+    for (;; place++) {
+        asm_instruction its = {9, 9, 9, 9, 9};
+        code = WRITES(asm_move_at(move_at(0), place, &its, OUT));
+        if (code != ASM_DONE) {
+            if (its.verb || its.amount || its.kind || its.number || its.place)
+                fail("the instruction of a refused call");
+            break;
+        }
+        all.len += (size_t)sprintf(all.at + all.len, "%c[\"%s\",%.*s,", place ? ',' : '[', verbs[its.verb], (int)its.place, (char *)out);
+        written -= its.place;
+        memmove(out, out + its.place, written);
+        write_value((asm_value){its.kind, its.number});
+        all.len += (size_t)sprintf(all.at + all.len, "%.*s", (int)written, (char *)out);
+        if (its.amount)
+            all.len += (size_t)sprintf(all.at + all.len, ",%" PRIu32, its.amount);
+        all.at[all.len++] = ']';
+    }
+    if (place != length || code != (move_at(0)->slot.full ? ASM_NO_INSTRUCTION : ASM_EMPTY))
+        fail("the length of a move");
+    give_room(all.len + 3);
+    written = (size_t)sprintf((char *)out, "%s%.*s]", place ? "" : "[", (int)all.len, all.at);
+    free(all.at);
+    return ASM_DONE;
+}
+
 /* Counts the element of the third word in the set or the bag at the location of the second one, by both calls. */
 static int32_t count_of(uint32_t *count) {
     struct asm_location at = {0};
@@ -219,6 +250,8 @@ static int32_t of_step(const char *call) {
     if (IS("offer")) return WRITES(asm_offer(step(0), OUT));
     if (IS("commit")) return commit();
     if (IS("gather")) return gather();
+    if (IS("length")) return write_number(asm_move_length(move_at(0)));
+    if (IS("instructions")) return list_move();
     if (IS("unite")) return write_null(asm_unite(move_at(0), move_at(1)));
     if (IS("drop")) {
         asm_free_move(move_at(0));

@@ -218,6 +218,22 @@ static void instructs(unsigned at, unsigned of_place) {
     m->move.removes |= instructions[i].verb == ASM_REMOVE;
 }
 
+/* Reads an instruction, or a place behind the last one. */
+static void reads_instruction(unsigned at) {
+    uint32_t length = asm_move_length(ANY(at)), place = below(length + 2);
+    asm_instruction its = {9, 9, 9, 9, 9};
+    bool is_move = accounts[at].kind == MOVE;
+    uint8_t out[256];
+    size_t written = 7;
+    int32_t wanted = !is_move ? ASM_EMPTY : place < length ? ASM_DONE : ASM_NO_INSTRUCTION;
+    REQUIRE(length > 0 ? is_move : !is_move || accounts[at].move.size == 0);
+    REQUIRE(asm_move_at(ANY(at), place, &its, out, sizeof out, &written) == wanted);
+    if (wanted == ASM_DONE)
+        REQUIRE(its.verb <= ASM_INC && its.place > 0 && its.place <= written);
+    else
+        REQUIRE(!its.verb && !its.amount && !its.kind && !its.number && !its.place && !written);
+}
+
 /* Appends the other move, unless the two are large. */
 static void unites(unsigned at, unsigned from) {
     account *m = &accounts[at];
@@ -360,7 +376,10 @@ void calls_any_plain(unsigned at, unsigned other) {
     unsigned of_step = fitting(at, other);
     at = below(4) ? some(AGENT, at) : at;
     of_step = below(4) ? fitting(at, of_step) : of_step;
-    switch (below(12)) {
+    switch (below(13)) {
+    case 12:
+        reads_instruction(some(MOVE, other));
+        break;
     case 11:
         if (have_meaning(at, of_step))
             below(3) ? counts_at(at, of_step, some(LOCATION, other)) : counts_function(at, of_step);

@@ -250,6 +250,17 @@ static void pop_move(const char *left) {
     is_unchanged();
 }
 
+/* Reads an instruction of the move, which is unchanged. */
+static void read_at(uint32_t place, int32_t kind, const char *text) {
+    uint8_t out[ROOM];
+    size_t written;
+    asm_slot was = move.slot;
+    asm_instruction its;
+    REQUIRE(AGAIN(asm_move_at(&move, place, &its, out, sizeof out, &written)) == ASM_DONE);
+    REQUIRE(its.verb == ASM_PUT && its.kind == kind && has(out, written, text));
+    REQUIRE(is_same(move, was) && asm_move_length(&move) == 2);
+}
+
 /* A step without text, which is abandoned. */
 static void run_plain(void) {
     uint8_t out[ROOM];
@@ -287,6 +298,8 @@ static void run_plain(void) {
     seen = "{'number':1,'values':[{'set':[1,{'list':[2]}]},{'set':[1,3,'two']}]}";
     count_at(&at[0], ASM_KIND_LIST, "{\"list\":[2]}", 1, 2);
     count_at(&at[1], ASM_KIND_TEXT, "why", 0, 2);
+    read_at(0, ASM_KIND_SET, "['x']{'set':[1,{'list':[2]}]}");
+    read_at(1, ASM_KIND_BAG, "['u','why']{'bag':[[1,2]]}");
     asm_free_move(&move);
     pop_move("{'number':1,'values':[8,{'set':[1,3,'two']}]}");
     REQUIRE(AGAIN(asm_peek_at(&agents[0], &at[0], &number, &value, out, sizeof out, &written)) ==

@@ -69,7 +69,8 @@ static const struct meaning {
     {ASM_COUNTS, "a segment has other counts than its name says"},
     {ASM_LONG_RUN, "100,000,000 segments, or 2^64 moves or more"},
     {ASM_ONE_SEGMENT, "the only segment of a run is not dropped"},
-    {45, "no code of this library"},
+    {ASM_NO_INSTRUCTION, "the move has no instruction at this place"},
+    {46, "no code of this library"},
     {-1, "no code of this library"},
 };
 
@@ -87,7 +88,7 @@ static void texts_of_codes(void) {
     for (size_t i = 0; i < sizeof meanings / sizeof *meanings; i++)
         SAYS(meanings[i].said, asm_error_text(meanings[i].code, OUT));
     for (int32_t code = -2; code < 50; code++) {
-        bool known = code >= ASM_DONE && code <= ASM_ONE_SEGMENT;
+        bool known = code >= ASM_DONE && code <= ASM_NO_INSTRUCTION;
         REQUIRE(asm_error_text(code, out, sizeof out, &written) == ASM_DONE && written > 0);
         REQUIRE(known == !(written == 23 && !memcmp(out, "no code of this library", 23)));
     }

@@ -155,6 +155,11 @@ final class Calls {
 
     static native int asm_unite(long move, long other);
 
+    static native int asm_move_length(long move);
+
+    static native int asm_move_at(
+            long move, int number, long found, long out, long room, long written);
+
     static native int asm_push_move(
             long agent, long step, long move, long out, long room, long written);
 

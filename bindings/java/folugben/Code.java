@@ -93,7 +93,9 @@ public enum Code {
     /** A run has too many segments or moves. */
     LONG_RUN(43),
     /** The only segment of a run isn't dropped. */
-    ONE_SEGMENT(44);
+    ONE_SEGMENT(44),
+    /** A move has no instruction at this place, which no call here returns. */
+    NO_INSTRUCTION(45);
 
     private static final Code[] ALL = values();
 

@@ -1,5 +1,9 @@
 package folugben;
 
+import java.util.ArrayList;
+import java.util.Collections;
+import java.util.Iterator;
+import java.util.List;
 import java.util.Objects;
 
 /**
@@ -10,8 +14,8 @@ import java.util.Objects;
  * storage.
  *
  * <p>The text of an operand that is a list, a set or a bag is written once, when it is gathered.
- * What {@link Step#popMove()} returns counts as one instruction, and more can be gathered after it.
- * Any thread may use a move, in one call at a time. No garbage collector releases a move: call
+ * More can be gathered after what {@link Step#popMove()} returns. Iterating yields the instructions
+ * as {@link #instructions} lists them: those that it has when the iteration begins. Any thread may use a move, in one call at a time. No garbage collector releases a move: call
  * close().
  *
  * <pre>{@code
@@ -23,7 +27,7 @@ import java.util.Objects;
  * }
  * }</pre>
  */
-public final class Move implements AutoCloseable {
+public final class Move implements AutoCloseable, Iterable<Instruction> {
     private static final int PUT = 0;
     private static final int ADD = 1;
     private static final int REMOVE = 2;
@@ -34,7 +38,6 @@ public final class Move implements AutoCloseable {
     /** Its slot, and the lock of the calls on it, which is taken after an agent's. */
     final Slot slot = new Slot();
 
-    private int size;
     /** About how many bytes its instructions have, for the count of a step. */
     long bytes;
     private boolean isClosed;
@@ -44,11 +47,50 @@ public final class Move implements AutoCloseable {
     /** Makes a move of no instructions. */
     public Move() {}
 
-    /** Returns how many instructions it has; what was popped into it is one of them. */
+    /** Returns how many instructions it has. */
     public int size() {
         synchronized (slot) {
-            return size;
+            return Calls.asm_move_length(slot.at);
         }
+    }
+
+    /**
+     * Returns its instructions, in the order in which they were gathered; the list doesn't change.
+     *
+     * @throws FolugbenException EMPTY if it was closed
+     */
+    public List<Instruction> instructions() {
+        Room room = new Room();
+        List<Instruction> all = new ArrayList<>();
+        synchronized (slot) {
+            expectOpen();
+            for (int place = 0, size = size(); place < size; place++)
+                all.add(instruction(room, place));
+        }
+        return Collections.unmodifiableList(all);
+    }
+
+    @Override
+    public Iterator<Instruction> iterator() {
+        return instructions().iterator();
+    }
+
+    private Instruction instruction(Room room, int place) {
+        FolugbenException.expect(room.make((text, out, length, written)
+                -> Calls.asm_move_at(slot.at, place, room.numbers(), out, length, written)));
+        int begin = (int) room.wide(3);
+        Location at = Location.parse(room.text(0, begin));
+        String operand = room.text(begin, (int) room.written());
+        Value value = Room.valueOf(room.number(2), room.wide(2), operand);
+        long amount = Integer.toUnsignedLong(room.number(1));
+        return switch (room.number(0)) {
+            case PUT -> new Instruction.Put(at, value);
+            case ADD -> new Instruction.Add(at, (Element) value);
+            case REMOVE -> new Instruction.Remove(at, (Element) value);
+            case BAG_ADD -> new Instruction.BagAdd(at, (Element) value, amount);
+            case BAG_REMOVE -> new Instruction.BagRemove(at, (Element) value, amount);
+            default -> new Instruction.Inc(at, room.wide(2));
+        };
     }
 
     /** Drops its instructions. */
@@ -65,7 +107,7 @@ public final class Move implements AutoCloseable {
     @Override
     public String toString() {
         synchronized (slot) {
-            return isClosed ? "a move, closed" : "a move of " + size + " instructions";
+            return isClosed ? "a move, closed" : "a move of " + size() + " instructions";
         }
     }
 
@@ -80,7 +122,6 @@ public final class Move implements AutoCloseable {
 
     private void drop() {
         Calls.asm_free(slot.at);
-        size = 0;
         bytes = 0;
         isCutOff = false;
     }
@@ -245,8 +286,6 @@ public final class Move implements AutoCloseable {
                 other.expectOpen();
                 isCutOff = true;
                 Code code = Code.of(Calls.asm_unite(slot.at, other.slot.at));
-                if (code == Code.DONE)
-                    size += other.size;
                 bytes += other.bytes;
                 isCutOff = false;
                 ManyException.expectMove(code, "both moves together");
@@ -316,16 +355,12 @@ public final class Move implements AutoCloseable {
         expectOpen();
         isCutOff = true;
         Code code = Code.of(Calls.asm_pop_move(step, slot.at));
-        if (code == Code.DONE)
-            size = 1;
         isCutOff = false;
         return code;
     }
 
-    /** Counts the instruction, if the code says that it was gathered. */
+    /** Counts the bytes of the instruction, and throws if it wasn't gathered. */
     private void took(PreparedLocation at, int operand, Code code) {
-        if (code == Code.DONE)
-            size++;
         this.bytes += at.length() + operand;
         isCutOff = false;
         ManyException.expectMove(code, "the move");

@@ -99,11 +99,15 @@ final class Room {
 
     /** Returns the text that the last call wrote, which must be a call that writes one. */
     String text() {
-        int length = (int) written();
-        if (length == 0)
+        return text(0, (int) written());
+    }
+
+    /** Returns a part of that text, between two places in bytes. */
+    String text(int from, int to) {
+        if (from == to)
             return "";
-        byte[] text = new byte[length];
-        bytes.get(begin, text);
+        byte[] text = new byte[to - from];
+        bytes.get(begin + from, text);
         return new String(text, StandardCharsets.UTF_8);
     }
 
@@ -153,12 +157,17 @@ final class Room {
 
     /** Returns the value itself. */
     Value readValue() {
-        return switch (kind()) {
+        return valueOf(kind(), number(), kind() < STRING ? "" : text());
+    }
+
+    /** Returns the value of a kind, a number and a text. */
+    static Value valueOf(int kind, long number, String text) {
+        return switch (kind) {
             case UNDEF -> Element.undef();
-            case BOOL -> new Element.Bool(number() != 0);
-            case NUM -> new Element.Num(number());
-            case STRING -> new Element.Text(text());
-            default -> Value.parse(text());
+            case BOOL -> new Element.Bool(number != 0);
+            case NUM -> new Element.Num(number);
+            case STRING -> new Element.Text(text);
+            default -> Value.parse(text);
         };
     }
 }

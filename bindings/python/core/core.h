@@ -107,9 +107,8 @@ typedef struct {
 
 typedef struct {
     Holder holder;
-    Py_ssize_t count;
     uint64_t size;
-    char is_freed, is_popped;
+    char is_freed;
 } Move;
 
 /* held.c: who may call, and what all types have. */

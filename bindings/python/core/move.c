@@ -174,9 +174,11 @@ const char *text_of_place(Place *its, size_t *len)
     return its->prepared ? PyBytes_AsString(its->prepared->text) : its->text.at;
 }
 
+/* The verbs by their numbers, as a push takes them, which are the names of the methods too. */
+static const char *const verbs[] = {"put", "add", "remove", "bag_add", "bag_remove", "inc"};
+
 int change_begin(Core *core, Change *its, PyObject *const *words, Py_ssize_t count, int verb)
 {
-    static const char *const names[] = {"put", "add", "remove", "bag_add", "bag_remove", "inc"};
     int is_bag = verb == ASM_BAGADD || verb == ASM_BAGREMOVE;
     its->verb = verb;
     its->number = 0;
@@ -184,7 +186,7 @@ int change_begin(Core *core, Change *its, PyObject *const *words, Py_ssize_t cou
     its->amount = is_bag;
     text_begin(&its->text);
     if (ODD(count < 2 || count > 2 + is_bag)) {
-        PyErr_Format(PyExc_TypeError, "%s() takes 2%s positional arguments but %zd were given", names[verb], is_bag ? " or 3" : "", count);
+        PyErr_Format(PyExc_TypeError, "%s() takes 2%s positional arguments but %zd were given", verbs[verb], is_bag ? " or 3" : "", count);
         return -1;
     }
     if (count == 3 && number_of(core, words[2], "amount", 1, UINT32_MAX, &its->amount))
@@ -243,7 +245,6 @@ static PyObject *instruct(Move *self, PyObject *const *words, Py_ssize_t count, 
         else if (ODD(change_put(&its, SLOT(self)) != ASM_DONE))
             refuse_change(core, &its);
         else {
-            self->count++;
             self->size += change_size(&its);
             result = Py_NewRef((PyObject *)self);
         }
@@ -256,7 +257,48 @@ CHANGES(static, Move, move, instruct)
 
 static Py_ssize_t move_len(Move *self)
 {
-    return self->count + self->is_popped;
+    return UNREADY(&self->holder) ? -1 : (Py_ssize_t)asm_move_length(SLOT(self));
+}
+
+static PyObject *instruction_of(Core *core, const asm_instruction *its, const Room *room)
+{
+    asm_value head = {its->kind, its->number};
+    Room bytes = {.at = room->at + its->place, .written = room->written - its->place};
+    PyObject *at = read_own_text(core, room->at, its->place, 1), *operand = at ? value_of(core, &head, &bytes) : NULL;
+    if (!operand)
+        Py_CLEAR(at);
+    else if (its->amount)
+        return Py_BuildValue("(sNNI)", verbs[its->verb], at, operand, (unsigned)its->amount);
+    return at ? Py_BuildValue("(sNN)", verbs[its->verb], at, operand) : NULL;
+}
+
+/* The instruction at a place, from 0 on. */
+static PyObject *move_item(Move *self, Py_ssize_t place)
+{
+    asm_instruction its;
+    Room room;
+    PyObject *one = NULL;
+    int32_t code = ASM_NO_INSTRUCTION;
+    if (UNREADY(&self->holder))
+        return NULL;
+    if (ODD(self->is_freed))
+        return refuse(self->holder.core, ASM_EMPTY, "freed_object", "(s)", "move");
+    room_begin(&room);
+    if (IS_FULL(self) && place >= 0 && place <= (Py_ssize_t)UINT32_MAX)
+        WITH_ROOM(code, &room, asm_move_at(SLOT(self), (uint32_t)place, &its, ROOM(&room)));
+    if (code == ASM_DONE)
+        one = instruction_of(self->holder.core, &its, &room);
+    else if (code == ASM_NO_INSTRUCTION)
+        PyErr_SetString(PyExc_IndexError, "the move has no instruction at this place");
+    else
+        refuse(self->holder.core, code, "expect", "(i)", (int)code);
+    room_end(&room);
+    return one;
+}
+
+static PyObject *move_iter(PyObject *self)
+{
+    return PySeqIter_New(self);
 }
 
 /* Appends the instructions of another move. */
@@ -275,7 +317,6 @@ static PyObject *unite(Move *self, PyObject *it)
     int32_t code = IS_FULL(other) ? asm_unite(SLOT(self), SLOT(other)) : ASM_DONE;
     if (ODD(code != ASM_DONE))
         return refuse(core, code, "unite", "(inn)", (int)code, move_len(self), move_len(other));
-    self->count += move_len(other);
     self->size += other->size;
     return Py_NewRef((PyObject *)self);
 }
@@ -297,9 +338,7 @@ static PyObject *move_or(PyObject *one, PyObject *two)
 static void drop(Move *self)
 {
     asm_free(SLOT(self));
-    self->count = 0;
     self->size = 0;
-    self->is_popped = 0;
 }
 
 static PyObject *move_clear(Move *self, PyObject *Py_UNUSED(none))
@@ -341,7 +380,8 @@ static PyObject *move_repr(Move *self)
 {
     if (self->is_freed)
         return PyUnicode_FromString("<Move, freed>");
-    return PyUnicode_FromFormat(self->is_popped ? "<Move, popped, and %zd instructions more>" : "<Move of %zd instructions>", self->count);
+    Py_ssize_t count = move_len(self);
+    return count < 0 ? NULL : PyUnicode_FromFormat("<Move of %zd instructions>", count);
 }
 
 static PyMethodDef methods[] = {
@@ -360,9 +400,10 @@ static PyMethodDef methods[] = {
 static PyType_Slot slots[] = {
     {Py_tp_doc, "Move()\n--\n\n"
                 "A move that is gathered instruction by instruction, and pushed by a step; without text if its locations are prepared.\n\n"
-                "It retains its instructions until `clear`, and may be pushed any number of times, in steps of any storage. A move that\n"
-                "`Step.pop_move` returns counts the popped moves as one instruction, and more may be appended."},
+                "It retains its instructions until `clear`, and may be pushed any number of times, in steps of any storage. To what\n"
+                "`Step.pop_move` returns more may be appended. Iterating yields each instruction as a push takes it: the verb, the\n"
+                "location and the operand, and of a bag the amount too."},
     {Py_tp_new, move_new}, {Py_tp_dealloc, holder_dealloc}, {Py_tp_methods, methods}, {Py_tp_members, holder_members},
-    {Py_tp_getset, holder_getters}, {Py_tp_repr, move_repr}, {Py_sq_length, move_len}, {Py_nb_bool, move_bool},
-    {Py_nb_or, move_or}, {Py_nb_inplace_or, unite}, {0}};
+    {Py_tp_getset, holder_getters}, {Py_tp_repr, move_repr}, {Py_sq_length, move_len}, {Py_sq_item, move_item}, {Py_tp_iter, move_iter},
+    {Py_nb_bool, move_bool}, {Py_nb_or, move_or}, {Py_nb_inplace_or, unite}, {0}};
 PyType_Spec move_spec = {"folugben.Move", sizeof(Move), 0, Py_TPFLAGS_DEFAULT | Py_TPFLAGS_IMMUTABLETYPE, slots};

@@ -358,7 +358,6 @@ PyObject *step_pop_move(Step *self, PyObject *Py_UNUSED(none))
     grow_by_name(self);
     self->is_pushed &= asm_depth(SLOT(self)) > 0;
     if (code == ASM_DONE) {
-        move->is_popped = 1;
         /* Nothing is known of its instructions. */
         move->size = LINE_LIMIT;
         return (PyObject *)move;

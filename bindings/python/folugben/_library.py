@@ -55,6 +55,7 @@ class Code(IntEnum):
     COUNTS = 42
     LONG_RUN = 43
     ONE_SEGMENT = 44
+    NO_INSTRUCTION = 45
 
 
 class TextForm(IntEnum):

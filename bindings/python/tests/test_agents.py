@@ -103,7 +103,7 @@ class Agents(unittest.TestCase):
             self.assertEqual(self.code_of(self.storage.agent, number), folugben.Code.AGENTS)
             self.assertEqual(self.code_of(Storage, (), number), folugben.Code.CAPACITY)
         self.assertRaises(TypeError, self.storage.agent, 0.5)
-        self.assertEqual(folugben.error_text(2**32), folugben.error_text(45))
+        self.assertEqual(folugben.error_text(2**32), folugben.error_text(46))
 
     def test_agents_of_another_storage(self):
         agent, other = self.storage.agent(0), Storage()
@@ -135,9 +135,9 @@ class Agents(unittest.TestCase):
             self.assertEqual(self.code_of(folugben.explain, form, b"[]"), folugben.Code.NO_FORM)
 
     def test_texts_of_codes(self):
-        texts = [folugben.error_text(code) for code in range(46)]
-        self.assertEqual(len(set(texts)), 46)
-        self.assertEqual(folugben.error_text(-1), texts[45])
+        texts = [folugben.error_text(code) for code in range(47)]
+        self.assertEqual(len(set(texts)), 47)
+        self.assertEqual(folugben.error_text(-1), texts[46])
         self.assertEqual(folugben.version(), 2000)
         major, minor, patch = map(int, folugben.__version__.split("."))
         self.assertEqual(folugben.version(), 1_000_000 * major + 1_000 * minor + patch)

@@ -143,6 +143,9 @@ class Replayer:
         for word, *words in instructions:
             getattr(self.move(move), word.replace("bag", "bag_"))(*words)
 
+    def instructions(self, move):
+        return [(word.replace("_", ""), *words) for word, *words in self.move(move)]
+
     def unite(self, move, other):
         self.move(move).unite(self.move(other))
 
@@ -253,7 +256,7 @@ def in_python(call, wanted):
         return list(map(own.value, wanted))
     if call in ("state", "scan", "get_all", "aggregate", "replay", "left"):
         return own.pairs(wanted)
-    return list(own.call({"fire": wanted, "reads": []})["fire"]) if call == "compose" else wanted
+    return list(own.call({"fire": wanted, "reads": []})["fire"]) if call in ("compose", "instructions") else wanted
 
 
 class Conformance(unittest.TestCase):

@@ -175,12 +175,14 @@ class Plain(unittest.TestCase):
         with self.assertRaisesRegex(ValueError, r'\["f",true\] and \["f",1\] are two locations, and one key'):
             list(folugben.states(journal))
 
-    def test_a_popped_move_says_so(self):
+    def test_a_popped_move_lists_the_instructions_of_its_one_move(self):
         with self.agent.step() as step:
-            step.push([["put", ["count"], 2]])
+            step.push([["put", ["count"], 2], ["put", ["total"], 1]])
+            step.extend([["inc", ["total"], 3]])
             popped = step.pop_move()
-            self.assertEqual(repr(popped), "<Move, popped, and 0 instructions more>")
+            self.assertEqual((list(popped), repr(popped)), ([("put", ("count",), 2), ("put", ("total",), 4)], "<Move of 2 instructions>"))
             self.assertIs(popped.put(["count"], 10), popped)
+            self.assertEqual(repr(popped), "<Move of 3 instructions>")
             self.assertEqual(repr(popped.clear()), "<Move of 0 instructions>")
 
     def test_operands_that_are_none(self):

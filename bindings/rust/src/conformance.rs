@@ -137,6 +137,10 @@ impl Replayer {
             "left" => return Ok(self.journal.as_ref().unwrap().replay().map_err(Refusal::Journal)?.as_slice().json()),
             "length" => return Ok(self.gathered.entry(next().number().unwrap()).or_default().len().to_string()),
             "gather" | "unite" | "drop" => self.gather(name, words)?,
+            "instructions" => {
+                let gathered = self.gathered.entry(typed(next().number())?).or_default();
+                return Ok(gathered.iter().collect::<Result<Vec<_>, _>>()?.json());
+            }
             "check" => return checked(&next().text().unwrap().into_bytes().into(), 0),
             "replay" => {
                 let journal = Journal::from(next().text().unwrap().into_bytes());

@@ -48,15 +48,23 @@ impl fmt::Debug for Prepared {
     }
 }
 
-/// The value that a call returned by its kind, its number and its bytes.
-pub(crate) fn value_of(head: &sys::Value, bytes: &[u8]) -> Result<Value, Error> {
+/// The element that a call returned by its kind, its number and its bytes.
+pub(crate) fn element_of(head: &sys::Value, bytes: &[u8]) -> Result<Element, Error> {
     Ok(match head.kind {
-        sys::KIND_UNDEF => Value::Undef,
-        sys::KIND_BOOL => Value::from(head.number == 1),
-        sys::KIND_NUM => Value::from(head.number),
-        sys::KIND_TEXT => Value::from(String::from_utf8_lossy(bytes).into_owned()),
-        _ => answer(bytes, Json::value)?,
+        sys::KIND_UNDEF => Element::Undef,
+        sys::KIND_BOOL => Element::from(head.number == 1),
+        sys::KIND_NUM => Element::from(head.number),
+        sys::KIND_TEXT => Element::from(String::from_utf8_lossy(bytes).into_owned()),
+        _ => answer(bytes, Json::element)?,
     })
+}
+
+/// The same of a value.
+pub(crate) fn value_of(head: &sys::Value, bytes: &[u8]) -> Result<Value, Error> {
+    match head.kind {
+        sys::KIND_SET | sys::KIND_BAG => answer(bytes, Json::value),
+        _ => element_of(head, bytes).map(Value::from),
+    }
 }
 
 /// The kind, the number and the bytes of a value, as calls take it.
@@ -74,10 +82,9 @@ pub(crate) fn operand_of(value: Value) -> (i32, i64, String) {
 
 /// A move that is gathered at prepared locations, instruction by instruction.
 ///
-/// A text is made of lists, sets and bags alone. What [`Step::pop_move`](crate::Step::pop_move) returns counts as one
-/// instruction, and more can be gathered after it.
+/// A text is made of lists, sets and bags alone. More can be gathered after what [`Step::pop_move`](crate::Step::pop_move)
+/// returns.
 pub struct PreparedMove {
-    len: usize,
     /// How many bytes its text has, about; of a popped move nothing is known.
     pub(crate) size: usize,
     pub(crate) slot: OwnedSlot,
@@ -87,32 +94,33 @@ impl PreparedMove {
     /// The move without instructions.
     #[must_use]
     pub fn new() -> PreparedMove {
-        PreparedMove { len: 0, size: 0, slot: OwnedSlot::empty() }
+        PreparedMove { size: 0, slot: OwnedSlot::empty() }
     }
 
     /// The move that the call puts into the slot.
     pub(crate) fn put_by(call: impl FnOnce(*mut sys::Slot) -> Result<(), Error>) -> Result<PreparedMove, Error> {
         let slot = OwnedSlot::empty();
         call(slot.at())?;
-        Ok(PreparedMove { len: 1, size: short(), slot })
+        Ok(PreparedMove { size: short(), slot })
     }
 
-    /// How many instructions it has; what was popped into it is one of them.
+    /// How many instructions it has.
     #[must_use]
     pub fn len(&self) -> usize {
-        self.len
+        // SAFETY: the slot is held by this thread.
+        unsafe { sys::asm_move_length(self.slot.at()) as usize }
     }
 
     /// Whether it has none.
     #[must_use]
     pub fn is_empty(&self) -> bool {
-        self.len == 0
+        self.len() == 0
     }
 
     /// Leaves it without instructions.
     pub fn clear(&mut self) -> &mut PreparedMove {
         self.slot.free();
-        (self.len, self.size) = (0, 0);
+        self.size = 0;
         self
     }
 
@@ -134,7 +142,6 @@ impl PreparedMove {
             }
             code => done(code)?,
         }
-        self.len += 1;
         self.size += at.size + bytes.len();
         Ok(self)
     }
@@ -224,7 +231,6 @@ impl PreparedMove {
         }
         // SAFETY: the slots are held by this thread, and are two.
         done(unsafe { sys::asm_unite(self.slot.at(), other.slot.at()) })?;
-        self.len += other.len;
         self.size += other.size;
         Ok(self)
     }
@@ -247,6 +253,6 @@ impl Default for PreparedMove {
 
 impl fmt::Debug for PreparedMove {
     fn fmt(&self, f: &mut fmt::Formatter<'_>) -> fmt::Result {
-        f.debug_struct("PreparedMove").field("len", &self.len).finish_non_exhaustive()
+        f.debug_struct("PreparedMove").field("len", &self.len()).finish_non_exhaustive()
     }
 }

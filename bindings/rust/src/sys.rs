@@ -23,6 +23,16 @@ pub(crate) struct Value {
 }
 
 #[repr(C)]
+#[derive(Default)]
+pub(crate) struct Instruction {
+    pub(crate) verb: i32,
+    pub(crate) amount: u32,
+    pub(crate) kind: i32,
+    pub(crate) number: i64,
+    pub(crate) place: usize,
+}
+
+#[repr(C)]
 #[derive(Clone, Copy, Default)]
 pub(crate) struct AuditNumbers {
     pub(crate) parts: u64,
@@ -224,6 +234,15 @@ unsafe extern "C" {
         amount: u32,
     ) -> i32;
     pub(crate) fn asm_unite(instrs: *mut Slot, other: *mut Slot) -> i32;
+    pub(crate) fn asm_move_length(instrs: *mut Slot) -> u32;
+    pub(crate) fn asm_move_at(
+        instrs: *mut Slot,
+        number: u32,
+        found: *mut Instruction,
+        out: *mut u8,
+        room: usize,
+        written: *mut usize,
+    ) -> i32;
     pub(crate) fn asm_push_move(
         agent: *mut Slot,
         step: *mut Slot,
@@ -380,6 +399,7 @@ mod codes {
     pub(crate) const COUNTS: i32 = 42;
     pub(crate) const LONG_RUN: i32 = 43;
     pub(crate) const ONE_SEGMENT: i32 = 44;
+    pub(crate) const NO_INSTRUCTION: i32 = 45;
 }
 pub(crate) use codes::*;
 // End of what tools/declarations writes.

@@ -26,6 +26,8 @@ mod pushing;
 #[tactic(auto, using(asm_slots::proofs::Answered::answers))]
 mod read_and_fire;
 #[tactic(auto, using(asm_slots::proofs::Answered::answers))]
+mod reading_moves;
+#[tactic(auto, using(asm_slots::proofs::Answered::answers))]
 mod running;
 #[tactic(auto, using(asm_slots::proofs::Answered::answers))]
 mod steps;

@@ -53,6 +53,7 @@ number_of variant.Damaged = pos 41
 number_of variant.Counts = pos 42
 number_of variant.LongRun = pos 43
 number_of variant.OneSegment = pos 44
+number_of variant.NoInstruction = pos 45
 
 -- the number that C gets
 abbrev pub answer_of : Result (Unit {0}) Code → ℤ
@@ -118,7 +119,8 @@ further_texts =
     codes "not the text that was saved" ∷
     codes "a segment has other counts than its name says" ∷
     codes "100,000,000 segments, or 2^64 moves or more" ∷
-    codes "the only segment of a run is not dropped" ∷ []
+    codes "the only segment of a run is not dropped" ∷
+    codes "the move has no instruction at this place" ∷ []
 
 -- the text with this index among these, or that of no code if there is none
 abbrev pub text_among : List (List ℕ) → ℤ → List ℕ

@@ -25,6 +25,7 @@ pub mod StepAnswers
 pub mod Commit
 pub mod Kinds
 pub mod Popping
+pub mod ReadMoves
 pub mod Members
 pub mod Counting
 pub mod RunReads

@@ -59,6 +59,7 @@ pub enum Code {
     Counts = 42,
     LongRun = 43,
     OneSegment = 44,
+    NoInstruction = 45,
 }
 
 /// Set `written` to how many bytes there are, and return `Small`, if the buffer has no room for them.
@@ -176,6 +177,7 @@ fn further_text(code: i32) -> &'static str
         42 => "a segment has other counts than its name says",
         43 => "100,000,000 segments, or 2^64 moves or more",
         44 => "the only segment of a run is not dropped",
+        45 => "the move has no instruction at this place",
         _ => "no code of this library",
     }
 }

@@ -13,17 +13,17 @@ use asm_explain::read_quickly;
 use asm_update::{Action, Amount};
 use std::alloc::Global;
 
-const PUT: i32 = 0;
+pub(crate) const PUT: i32 = 0;
 
-const ADD: i32 = 1;
+pub(crate) const ADD: i32 = 1;
 
-const REMOVE: i32 = 2;
+pub(crate) const REMOVE: i32 = 2;
 
-const BAGADD: i32 = 3;
+pub(crate) const BAGADD: i32 = 3;
 
-const BAGREMOVE: i32 = 4;
+pub(crate) const BAGREMOVE: i32 = 4;
 
-const INC: i32 = 5;
+pub(crate) const INC: i32 = 5;
 
 /// What an instruction does with an element.
 #[derive(Clone, Copy, Drop)]

@@ -45,7 +45,7 @@ impl ValueHead {
         ValueHead { kind: 0, number: 0 }
     }
 
-    fn of_element(element: &Element) -> ValueHead
+    pub(crate) fn of_element(element: &Element) -> ValueHead
         ensures kind { result.kind ≡ kind_of (values.Plain element.now) }
         ensures number { result.number ≡ number_of (values.Plain element.now) }
     {

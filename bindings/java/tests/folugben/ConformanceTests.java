@@ -108,6 +108,7 @@ final class ConformanceTests {
             case "left" -> Storage.replay(journal);
             case "length" -> "" + move(own).size();
             case "gather", "unite", "drop" -> nothing(() -> gather(name, move(own), words.subList(1, words.size())));
+            case "instructions" -> "[" + String.join(",", move(own).instructions().stream().map(Instruction::json).toList()) + "]";
             case "check" -> checked(string(own), 0);
             case "replay" -> Storage.replay(string(own));
             case "aggregate" -> aggregate(own, words.get(1));

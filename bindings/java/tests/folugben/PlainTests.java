@@ -190,6 +190,21 @@ final class PlainTests {
         thrown(NullPointerException.class, "location", () -> new PreparedLocation(null));
     }
 
+    /** A move is listed, the instructions of a popped one too, unless it is closed. */
+    static void listed() {
+        try (Storage storage = Storage.open(Map.of(X, 1), 8); Agent agent = storage.agent(0);
+                Step step = agent.step(); Move move = new Move()) {
+            step.push(Instruction.inc(X, 3));
+            step.extend(Instruction.inc(X, 4));
+            equal(step.popMove(move).instructions(), List.of(Instruction.inc(X, 7)));
+            for (Instruction it : move.gather(Instruction.bagAdd(X, "e", Value.MAX_COUNT)))
+                equal(it.location(), X);
+            Move closed = new Move();
+            closed.close();
+            refused(Code.EMPTY, closed::instructions);
+        }
+    }
+
     /** Handles that are closed, or whose step or agent is over. */
     static void closed() {
         try (Storage storage = Storage.open(Map.of(X, 1), 8); Agent agent = storage.agent(0);
@@ -286,6 +301,7 @@ final class PlainTests {
         System.out.println("gathered moves");
         operands();
         System.out.println("operands");
+        listed();
         closed();
         System.out.println("closed handles");
         sharedByThreads();

@@ -16,11 +16,11 @@ next k n le other = let lt : k < n = lt_of_le-ne le (λ e. other (sym e)) in ome
 no_text : (code : ℤ) → int_lt code (pos 23) ≡ false → IsNot code 23 → IsNot code 24 → IsNot code 25 → IsNot code 26 →
     IsNot code 27 → IsNot code 28 → IsNot code 29 → IsNot code 30 → IsNot code 31 → IsNot code 32 → IsNot code 33 →
     IsNot code 34 → IsNot code 35 → IsNot code 36 → IsNot code 37 → IsNot code 38 → IsNot code 39 → IsNot code 40 →
-    IsNot code 41 → IsNot code 42 → IsNot code 43 → IsNot code 44 →
+    IsNot code 41 → IsNot code 42 → IsNot code 43 → IsNot code 44 → IsNot code 45 →
     codes "no code of this library" ≡ text_among further_texts (further code)
-no_text (negsuc n) above n23 n24 n25 n26 n27 n28 n29 n30 n31 n32 n33 n34 n35 n36 n37 n38 n39 n40 n41 n42 n43 n44
+no_text (negsuc n) above n23 n24 n25 n26 n27 n28 n29 n30 n31 n32 n33 n34 n35 n36 n37 n38 n39 n40 n41 n42 n43 n44 n45
     = refl
-no_text (pos n) above n23 n24 n25 n26 n27 n28 n29 n30 n31 n32 n33 n34 n35 n36 n37 n38 n39 n40 n41 n42 n43 n44 =
+no_text (pos n) above n23 n24 n25 n26 n27 n28 n29 n30 n31 n32 n33 n34 n35 n36 n37 n38 n39 n40 n41 n42 n43 n44 n45 =
     let from : 23 ≤ n = ltb-false n 23 above in
     let s24 : 24 ≤ n = next 23 n from (λ x. n23 (ap (λ q. of_z w32 (pos q)) x)) in
     let s25 : 25 ≤ n = next 24 n s24 (λ x. n24 (ap (λ q. of_z w32 (pos q)) x)) in
@@ -44,15 +44,17 @@ no_text (pos n) above n23 n24 n25 n26 n27 n28 n29 n30 n31 n32 n33 n34 n35 n36 n3
     let s43 : 43 ≤ n = next 42 n s42 (λ x. n42 (ap (λ q. of_z w32 (pos q)) x)) in
     let s44 : 44 ≤ n = next 43 n s43 (λ x. n43 (ap (λ q. of_z w32 (pos q)) x)) in
     let s45 : 45 ≤ n = next 44 n s44 (λ x. n44 (ap (λ q. of_z w32 (pos q)) x)) in
-    let past : 22 ≤ n - 23 = omega (arith, s45) in
+    let s46 : 46 ≤ n = next 45 n s45 (λ x. n45 (ap (λ q. of_z w32 (pos q)) x)) in
+    let past : 23 ≤ n - 23 = omega (arith, s46) in
     sym (get_or_past further_texts (n - 23) (codes "no code of this library") past)
 
 pub returns-in_default : goal.returns-in_default
 returns-in_default c =
     let r = c.in_default.in_default-own.rest in
-    no_text c.args.code c.requires r.0.0.0.0.0.0.0.0.0.0.0.0.0.0.0.0.0.0.0.0.0.1
-    r.0.0.0.0.0.0.0.0.0.0.0.0.0.0.0.0.0.0.0.0.1 r.0.0.0.0.0.0.0.0.0.0.0.0.0.0.0.0.0.0.0.1
-    r.0.0.0.0.0.0.0.0.0.0.0.0.0.0.0.0.0.0.1 r.0.0.0.0.0.0.0.0.0.0.0.0.0.0.0.0.0.1 r.0.0.0.0.0.0.0.0.0.0.0.0.0.0.0.0.1
-    r.0.0.0.0.0.0.0.0.0.0.0.0.0.0.0.1 r.0.0.0.0.0.0.0.0.0.0.0.0.0.0.1 r.0.0.0.0.0.0.0.0.0.0.0.0.0.1
-    r.0.0.0.0.0.0.0.0.0.0.0.0.1 r.0.0.0.0.0.0.0.0.0.0.0.1 r.0.0.0.0.0.0.0.0.0.0.1 r.0.0.0.0.0.0.0.0.0.1
-    r.0.0.0.0.0.0.0.0.1 r.0.0.0.0.0.0.0.1 r.0.0.0.0.0.0.1 r.0.0.0.0.0.1 r.0.0.0.0.1 r.0.0.0.1 r.0.0.1 r.0.1 r.1
+    no_text c.args.code c.requires r.0.0.0.0.0.0.0.0.0.0.0.0.0.0.0.0.0.0.0.0.0.0.1
+    r.0.0.0.0.0.0.0.0.0.0.0.0.0.0.0.0.0.0.0.0.0.1 r.0.0.0.0.0.0.0.0.0.0.0.0.0.0.0.0.0.0.0.0.1
+    r.0.0.0.0.0.0.0.0.0.0.0.0.0.0.0.0.0.0.0.1 r.0.0.0.0.0.0.0.0.0.0.0.0.0.0.0.0.0.0.1
+    r.0.0.0.0.0.0.0.0.0.0.0.0.0.0.0.0.0.1 r.0.0.0.0.0.0.0.0.0.0.0.0.0.0.0.0.1 r.0.0.0.0.0.0.0.0.0.0.0.0.0.0.0.1
+    r.0.0.0.0.0.0.0.0.0.0.0.0.0.0.1 r.0.0.0.0.0.0.0.0.0.0.0.0.0.1 r.0.0.0.0.0.0.0.0.0.0.0.0.1 r.0.0.0.0.0.0.0.0.0.0.0.1
+    r.0.0.0.0.0.0.0.0.0.0.1 r.0.0.0.0.0.0.0.0.0.1 r.0.0.0.0.0.0.0.0.1 r.0.0.0.0.0.0.0.1 r.0.0.0.0.0.0.1 r.0.0.0.0.0.1
+    r.0.0.0.0.1 r.0.0.0.1 r.0.0.1 r.0.1 r.1
