@@ -55,12 +55,13 @@
  *    added; the agent may have seen more moves. asm_commit_recorded may also add the receipt of a
  *    read before that of its fire, and with ASM_BUSY and ASM_MEMORY the first alone. No other call
  *    adds one.
- *  - After asm_follow, asm_stands and asm_begin the agent may have seen more moves, with ASM_MEMORY
- *    too. asm_audit takes bytes with each code except ASM_TAKEN. After asm_run_end with another code
- *    than ASM_DONE, ASM_EMPTY and ASM_ORDER a run reads nothing more. A push or an extension that is
- *    refused (ASM_CLASH, ASM_MANY, ASM_LONG_MOVE, ASM_LARGE, ASM_SMALL) leaves the pushed moves
- *    unchanged, and may track locations. ASM_MANY of asm_commit_recorded leaves both slots
- *    unchanged. After any other call, each code except ASM_DONE means that the slots are unchanged.
+ *  - After asm_follow, asm_stands, asm_step_stands and asm_begin the agent may have seen more moves,
+ *    with ASM_MEMORY too. asm_audit takes bytes with each code except ASM_TAKEN. After asm_run_end
+ *    with another code than ASM_DONE, ASM_EMPTY and ASM_ORDER a run reads nothing more. A push or an
+ *    extension that is refused (ASM_CLASH, ASM_MANY, ASM_LONG_MOVE, ASM_LARGE, ASM_SMALL) leaves the
+ *    pushed moves unchanged, and may track locations. ASM_MANY of asm_commit_recorded leaves both
+ *    slots unchanged. After any other call, each code except ASM_DONE means that the slots are
+ *    unchanged.
  *  - A number that a call writes is 0 unless its code is said to set it. `*written` is set with
  *    ASM_DONE and with each code that is said to come with a text, to the length of the text, and
  *    with ASM_SMALL.
@@ -307,11 +308,11 @@ FOLUGBEN_NODISCARD int32_t asm_learn(struct asm_agent *agent, struct asm_agent *
 FOLUGBEN_NODISCARD int32_t asm_take_state(struct asm_agent *agent, struct asm_agent *other);
 
 /* AN AGENT'S OWN STATE is the state after a number of moves, its version. It moves on only in
- * asm_follow, asm_stands, asm_begin, asm_read, asm_try_fire, asm_try_fire_over, asm_commit and
- * asm_commit_recorded; asm_take_state exchanges it. A move that the agent fired itself is taken in
- * by its next poll, such as asm_follow makes. asm_peek, asm_state and asm_scan read that state,
- * without a poll or a receipt. A later fire may name each location, and each scanned function, with
- * the number that they return. */
+ * asm_follow, asm_stands, asm_step_stands, asm_begin, asm_read, asm_try_fire, asm_try_fire_over,
+ * asm_commit and asm_commit_recorded; asm_take_state exchanges it. A move that the agent fired
+ * itself is taken in by its next poll, such as asm_follow makes. asm_peek, asm_state and asm_scan
+ * read that state, without a poll or a receipt. A later fire may name each location, and each
+ * scanned function, with the number that they return. */
 
 /* Polls until no further move is found; the agent's own state follows. `*number` is then how many
  * moves it has seen. ASM_EMPTY, ASM_MEMORY. */
@@ -446,6 +447,15 @@ uint32_t asm_depth(struct asm_step *step);
  * ASM_MEMORY. */
 FOLUGBEN_NODISCARD int32_t asm_offer(struct asm_step *step, uint8_t *out, size_t room,
     size_t *written);
+
+/* Validates what the step depends on, after polling as asm_follow does. ASM_DONE: no move after the
+ * step's number has written a location that asm_commit would name, or one of a scanned function.
+ * ASM_STALE, with the text {"stale":LOC}: one has, so asm_commit would be stale too. To wait for
+ * that, repeat the call, with a pause in between. The agent's own state follows, so the step may
+ * read no more (ASM_MOVED); asm_commit may still be called. ASM_EMPTY (one of the slots), ASM_SMALL,
+ * ASM_MEMORY. */
+FOLUGBEN_NODISCARD int32_t asm_step_stands(struct asm_agent *agent, struct asm_step *step,
+    uint8_t *out, size_t room, size_t *written);
 
 /* Fires one move that does what the pushed moves do in turn, naming each location on which the step
  * depends, at the step's number. Codes, numbers and receipt are as of asm_try_fire, and asm_answer

@@ -997,6 +997,7 @@ class open_step {
     }
     struct asm_agent *get_agent() const noexcept { return seat_ ? seat_->get() : nothing<struct asm_agent>(); }
     bool is_recording() const noexcept { return seat_ && seat_->is_recording(); }
+    code polled(code it) const noexcept { return seat_ ? seat_->polled(it) : it; }
 
   private:
     std::shared_ptr<seat> seat_;
@@ -1081,6 +1082,30 @@ class step {
         instructions move;
         detail::done(try_pop_move(move));
         return move;
+    }
+
+    // Polls, and throws `conflict` with a location that was written since the step began: one on which it depends, or one of a
+    // function that it scanned. A commit would be stale too. The agent's own state follows, so the step may read no more.
+    void stands() {
+        std::string text;
+        const code it = try_stands(text);
+        detail::done(it, std::move(text));
+    }
+    // Does the same without throwing; with code::stale `text` is {"stale":LOC}.
+    [[nodiscard]] code try_stands(std::string &text);
+    // Waits until the step stands no longer; returns whether that came before the time was over.
+    template <class Count, class Period> bool wait(std::chrono::duration<Count, Period> timeout) {
+        const auto end = std::chrono::steady_clock::now() + timeout;
+        const auto longest = std::chrono::microseconds(10'000);
+        std::string text;
+        for (auto pause = std::chrono::microseconds(20);; pause = std::min(2 * pause, longest)) {
+            const code it = try_stands(text);
+            if (it == code::stale) return true;
+            detail::done(it);
+            const auto now = std::chrono::steady_clock::now();
+            if (now >= end) return false;
+            std::this_thread::sleep_until(std::min<decltype(now + timeout)>(now + pause, end));
+        }
     }
 
     // Returns {"fire":[INSTR, ..],"reads":[NAMED, ..]}: what a commit would fire and name by now, which agent::fire_json takes.
@@ -1403,6 +1428,11 @@ inline std::string step::offer_json() {
     auto call = [&](auto *out, auto room, auto *written) { return asm_offer(slot_.get(), out, room, written); };
     detail::done(detail::text_of_call(call, text));
     return text;
+}
+
+inline code step::try_stands(std::string &text) {
+    auto call = [&](auto *out, auto room, auto *written) { return asm_step_stands(get_agent(), slot_.get(), out, room, written); };
+    return open_.polled(detail::text_of_call(call, text));
 }
 
 inline std::string step::scan_json(std::string_view name) {

@@ -323,6 +323,7 @@ class replayer {
         {"extend", [this](const words &of) { return step(of).extend_json(of[1]), "null"; }},
         {"pop", [this](const words &of) { return step(of).pop(), "null"; }},
         {"depth", [this](const words &of) { return std::to_string(step(of).depth()); }},
+        {"step_stands", [this](const words &of) { return step(of).stands(), "null"; }},
         {"offer", [this](const words &of) { return step(of).offer_json(); }},
         {"commit", [this](const words &of) { return commit(of); }},
         {"close", [this](const words &) { return journal_ = storage_.value().close(), "null"; }},

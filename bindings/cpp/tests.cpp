@@ -265,6 +265,20 @@ void moves_are_ranges() {
     WANTED(step.get(f).as_bag() == folugben::bag{{"e", 2}});
 }
 
+void steps_wait() {
+    using namespace std::chrono_literals;
+    folugben::storage storage(R"([[["x"],1]])", 10);
+    folugben::agent one = storage.make_agent(0), other = storage.make_agent(1);
+    folugben::location x("x"), y("y");
+    folugben::step step = one.begin();
+    WANTED(step.get(x).number() == 1 && !step.wait(1ms));
+    other.play([&](folugben::step &it) { it.push(folugben::instructions().put(y, 1)); });
+    step.stands();
+    WANTED(!step.wait(0s));
+    other.play([&](folugben::step &it) { it.push(folugben::instructions().put(x, 1)); });
+    WANTED(step.wait(1h) && REFUSED(folugben::conflict, step.stands()).text() == R"({"stale":["x"]})");
+}
+
 void plays_end_with_their_patience() {
     using namespace std::chrono_literals;
     folugben::storage storage(COUNT, 100);
@@ -347,6 +361,7 @@ int main() {
     rules_may_commit();
     moves_are_united();
     moves_are_ranges();
+    steps_wait();
     plays_end_with_their_patience();
     refusals_name_the_limit_and_range();
     refusals_name_the_fault();

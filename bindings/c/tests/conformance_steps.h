@@ -248,6 +248,7 @@ static int32_t of_step(const char *call) {
     if (IS("pop")) return write_null(asm_pop(step(0)));
     if (IS("depth")) return write_number(asm_depth(step(0)));
     if (IS("offer")) return WRITES(asm_offer(step(0), OUT));
+    if (IS("step_stands")) return or_refusal(WRITES(asm_step_stands(agent(0), step(0), OUT)));
     if (IS("commit")) return commit();
     if (IS("gather")) return gather();
     if (IS("length")) return write_number(asm_move_length(move_at(0)));

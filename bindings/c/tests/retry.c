@@ -412,6 +412,34 @@ static void continue_after_full(void) {
     asm_free_storage(&next);
 }
 
+/* A step stands until a function that it scanned is written; it is unchanged. */
+static void stand(void) {
+    struct asm_storage own = {0};
+    struct asm_agent one = {0}, other = {0};
+    struct asm_step on = {0};
+    asm_numbers numbers;
+    uint32_t number;
+    uint8_t out[ROOM];
+    size_t written;
+    REQUIRE(AGAIN(asm_open(TEXT("[[['x'],1]]"), 2, &own)) == ASM_DONE);
+    REQUIRE(AGAIN(asm_agent(&own, 0, &one)) == ASM_DONE);
+    REQUIRE(AGAIN(asm_agent(&own, 1, &other)) == ASM_DONE);
+    REQUIRE(AGAIN(asm_begin(&one, &on, &number)) == ASM_DONE && number == 0);
+    REQUIRE(AGAIN(asm_get(&one, &on, TEXT("[['x']]"), out, sizeof out, &written)) == ASM_DONE);
+    REQUIRE(AGAIN(asm_count(&one, &on, (const uint8_t *)"f", 1, &(uint64_t){0})) == ASM_DONE);
+    asm_slot was = on.slot;
+    REQUIRE(AGAIN(asm_step_stands(&one, &on, out, sizeof out, &written)) == ASM_DONE);
+    REQUIRE(written == 0 && is_same(on, was));
+    REQUIRE(AGAIN(asm_try_fire(&other, TEXT("{'fire':[['put',['f',1],1]],'reads':[]}"),
+                               &numbers)) == ASM_DONE);
+    REQUIRE(AGAIN(asm_step_stands(&one, &on, out, sizeof out, &written)) == ASM_STALE);
+    REQUIRE(has(out, written, "{'stale':['f',1]}") && is_same(on, was));
+    asm_free_step(&on);
+    asm_free_agent(&other);
+    asm_free_agent(&one);
+    asm_free_storage(&own);
+}
+
 /* The run continues in a storage that opens with the state at the end of the first. */
 static void continue_from_agent(const char *left) {
     struct asm_storage next = {0};
@@ -513,6 +541,7 @@ int main(int argc, char **argv) {
     close_all(&storage, 3, 6, 2, left);
     continue_from_agent(left);
     continue_after_full();
+    stand();
     record();
     save_and_read();
     if (argc > 1)

@@ -126,6 +126,8 @@ final class Calls {
 
     static native int asm_offer(long step, long out, long room, long written);
 
+    static native int asm_step_stands(long agent, long step, long out, long room, long written);
+
     static native int asm_commit(long agent, long step, long numbers);
 
     static native int asm_commit_recorded(long agent, long step, long numbers);

@@ -154,6 +154,14 @@ class Slot extends Memory {
             return result;
         }
 
+        Calls.Result stands(Slot step) {
+            Calls.Result result = room.resultOf(
+                    (text, out, length, written)
+                            -> Calls.asm_step_stands(at, step.at, out, length, written));
+            afterPoll(result.code());
+            return result;
+        }
+
         Calls.Result peek(byte[] locations) {
             Code code = catchUp();
             return code != Code.DONE ? new Calls.Result(code, "") : room.resultOf(locations,

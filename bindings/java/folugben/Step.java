@@ -1,8 +1,11 @@
 package folugben;
 
+import java.time.Duration;
 import java.util.Arrays;
 import java.util.List;
 import java.util.Objects;
+import java.util.Optional;
+import java.util.concurrent.TimeUnit;
 
 /**
  * A transaction of an agent: it reads values, pushes moves and commits.
@@ -28,6 +31,10 @@ import java.util.Objects;
  * step: call close().
  */
 public sealed class Step extends StepCalls implements AutoCloseable permits SharedAgent.SharedStep {
+    /** How long a wait sleeps between two polls, in ns: first, and at most. */
+    private static final long FIRST_PAUSE = 20_000;
+    private static final long LONGEST_PAUSE = 10_000_000;
+
     /** To be called with the agent's lock, as all that uses the slot. */
     Step(Agent agent) {
         super(agent);
@@ -387,6 +394,39 @@ public sealed class Step extends StepCalls implements AutoCloseable permits Shar
         /** The same with numbers that count so many moves more. */
         private Offer plus(long before) {
             return new Offer(fire, reads.stream().map(it -> it.plus(before)).toList());
+        }
+    }
+
+    /**
+     * Polls; returns a location that was written since the step began, so that a commit is stale.
+     *
+     * <p>It is one on which the step depends, or one of a function that it scanned. The agent's own
+     * state follows, so the step may read no more; a commit still fires what was pushed, if nothing
+     * is returned.
+     */
+    public Optional<Location> stands() {
+        Turns.Player player = Turns.Player.poll(agent);
+        String text = overwritten();
+        player.observe(text == null ? "" : text);
+        return Optional.ofNullable(text).map(it -> JsonReader.objection(it).at());
+    }
+
+    /**
+     * Waits until {@link #stands} returns a location.
+     *
+     * <p>Returns whether it has; else the time is over. Begin another step then.
+     *
+     * @throws InterruptedException if the thread is interrupted, also before the call
+     */
+    public boolean await(Duration timeout) throws InterruptedException {
+        long end = System.nanoTime() + timeout.toNanos();
+        for (long pause = FIRST_PAUSE;; pause = Math.min(2 * pause, LONGEST_PAUSE)) {
+            if (stands().isPresent())
+                return true;
+            long left = end - System.nanoTime();
+            if (left <= 0)
+                return false;
+            TimeUnit.NANOSECONDS.sleep(Math.min(left, pause));
         }
     }
 

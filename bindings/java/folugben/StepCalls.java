@@ -225,6 +225,16 @@ abstract sealed class StepCalls permits Step {
             return result.text();
         }
     }
+    /** Returns the text of a location that was written since, or null. */
+    String overwritten() {
+        synchronized (agent.slot) {
+            Calls.Result result = agent.slot.stands(slot());
+            if (result.code() == Code.STALE)
+                return result.text();
+            FolugbenException.expect(expectUnmoved(result.code()));
+            return null;
+        }
+    }
     Code committed() {
         Code code = agent.commit(slot().at);
         if (code == Code.DONE)

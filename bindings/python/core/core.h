@@ -277,7 +277,7 @@ PyObject *agent_scan(Agent *self, PyObject *name);
 PyObject *agent_stands(Agent *self, PyObject *reads);
 PyObject *agent_go_on(Agent *self, PyObject *words, PyObject *named);
 
-/* step.c, and step_values.c */
+/* step.c, step_values.c and waiting.c */
 void grow_by_push(Step *self, int is_partial);
 PyObject *refuse_push(Step *self, int32_t code, const char *move, size_t len, Room *room);
 PyObject *refuse_step(Step *self, int32_t code);
@@ -294,6 +294,8 @@ PyObject *step_push(Step *self, PyObject *it);
 PyObject *step_extend(Step *self, PyObject *it);
 PyObject *step_pop(Step *self, PyObject *it);
 PyObject *step_pop_move(Step *self, PyObject *it);
+PyObject *step_stands(Step *self, PyObject *none);
+PyObject *step_wait(Step *self, PyObject *words, PyObject *named);
 #define DECLARE_CHANGE(name) PyObject *step_##name(Step *self, PyObject *const *words, Py_ssize_t count)
 DECLARE_CHANGE(put);
 DECLARE_CHANGE(add);

@@ -308,6 +308,15 @@ static PyMethodDef methods[] = {
         "    ManyError: the fire would name more than 256 locations and functions."},
     {"try_commit", (PyCFunction)step_try_commit, METH_NOARGS,
         "try_commit($self, /)\n--\n\nCommit the same way, but return 0 if the step must be begun again."},
+    {"stands", (PyCFunction)step_stands, METH_NOARGS,
+        "stands($self, /)\n--\n\n"
+        "Poll; return a location that was written since the step began, so that a commit is `StaleError`, or None.\n\n"
+        "It is one on which the step depends, or one of a function that it scanned. The agent's own state follows, so the step may read\n"
+        "no more (`MovedError`); a commit still fires what was pushed."},
+    {"wait", METHOD(step_wait), METH_VARARGS | METH_KEYWORDS,
+        "wait($self, /, timeout=None)\n--\n\n"
+        "Wait until `stands` would return a location, and return True; after `timeout` seconds return False.\n\n"
+        "Then begin another step. Other threads run meanwhile, and a signal's handler may end the wait."},
     {"free", (PyCFunction)step_free, METH_NOARGS, "free($self, /)\n--\n\nRelease it; releasing again has no effect."},
     {"_offer_text", (PyCFunction)step_offer_text, METH_NOARGS, NULL},
     {"_end", (PyCFunction)step_end, METH_O, NULL},

@@ -16,6 +16,9 @@ PATIENCE = 0.1
 # An agent adds its receipts to the common count after this many.
 _EACH = 32
 
+# After how many seconds a wait looks whether the part has ended.
+SLICE = 0.05
+
 
 class PartStep(Step):
     """A step of an agent of a run, whose numbers are those of the run."""
@@ -59,6 +62,16 @@ class PartStep(Step):
         except (FullError, PastError):
             self._is_tried = True
             return 0
+
+    def wait(self, timeout: float | None = None) -> bool:
+        """Wait as any step does; True is returned also if its part has ended."""
+        end = None if timeout is None else time.monotonic() + timeout
+        while not super().wait(SLICE if end is None else min(SLICE, end - time.monotonic())):
+            if self._agent.seen >= self._agent.part.most:
+                return True
+            if end is not None and time.monotonic() >= end:
+                return False
+        return True
 
     def _try(self) -> None:
         receipts = 2 if self._agent.part.storage.record else 1

@@ -155,6 +155,10 @@ class Replayer:
     def length(self, move):
         return len(self.move(move))
 
+    def step_stands(self, own):
+        at = self.steps[own].stands()
+        return at if at is None else {"stale": at}
+
     def depth(self, own):
         return self.steps[own].depth
 

@@ -253,6 +253,12 @@ impl Replayer {
                 mem::forget(step);
                 return Ok(start.to_string());
             }
+            "step_stands" => {
+                return self.step(number, |it| {
+                    it.stands()?;
+                    Ok("null".to_owned())
+                });
+            }
             "end" => self.agent(number)?.slots.end_step(),
             "commit" => return Ok(fired(commit(self.agent(number)?)?.into())),
             "get" => return self.step(number, |it| Ok(it.get_each(&places(next())?)?.as_slice().json())),

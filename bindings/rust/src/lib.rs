@@ -79,6 +79,7 @@ mod sys;
 mod turns;
 mod typed;
 mod value;
+mod waiting;
 
 pub use agent::{Agent, Reading};
 pub use audit::{AuditError, Auditor, Counts, audit};

@@ -189,6 +189,13 @@ unsafe extern "C" {
     pub(crate) fn asm_pop_move(step: *mut Slot, instrs: *mut Slot) -> i32;
     pub(crate) fn asm_depth(step: *mut Slot) -> u32;
     pub(crate) fn asm_offer(step: *mut Slot, out: *mut u8, room: usize, written: *mut usize) -> i32;
+    pub(crate) fn asm_step_stands(
+        agent: *mut Slot,
+        step: *mut Slot,
+        out: *mut u8,
+        room: usize,
+        written: *mut usize,
+    ) -> i32;
     pub(crate) fn asm_commit(agent: *mut Slot, step: *mut Slot, numbers: *mut Numbers) -> i32;
     pub(crate) fn asm_commit_recorded(agent: *mut Slot, step: *mut Slot, numbers: *mut Numbers) -> i32;
     pub(crate) fn asm_location(location: *const u8, len: usize, at: *mut Slot) -> i32;

@@ -30,4 +30,6 @@ mod reading_moves;
 #[tactic(auto, using(asm_slots::proofs::Answered::answers))]
 mod running;
 #[tactic(auto, using(asm_slots::proofs::Answered::answers))]
+mod standing;
+#[tactic(auto, using(asm_slots::proofs::Answered::answers))]
 mod steps;

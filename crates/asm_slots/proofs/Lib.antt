@@ -18,3 +18,4 @@ pub mod RunAnswers
 pub mod Commits
 pub mod MembersOfSteps
 pub mod CountsOfSteps
+pub mod StandingSteps

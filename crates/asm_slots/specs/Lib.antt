@@ -26,6 +26,7 @@ pub mod Commit
 pub mod Kinds
 pub mod Popping
 pub mod ReadMoves
+pub mod Standing
 pub mod Members
 pub mod Counting
 pub mod RunReads

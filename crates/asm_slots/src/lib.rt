@@ -37,6 +37,7 @@ mod run;
 pub mod running;
 mod shared;
 mod slot;
+pub mod standing;
 pub mod steps;
 mod store;
 pub mod store_agents;

@@ -219,8 +219,8 @@ pub fn peek(
     write(text.as_bytes(), out, written)
 }
 
-// Return `{"stale":LOC}`.
-fn stale_text(alloc: Global, at: Location) -> Result<String, AllocError>
+/// Return `{"stale":LOC}`.
+pub(crate) fn stale_text(alloc: Global, at: Location) -> Result<String, AllocError>
     ensures { IfOk result (λ text. IsStaleText at (string_bytes text)) }
 {
     answer_text(alloc, &Answer::Fire(Reply::Stale(at)))

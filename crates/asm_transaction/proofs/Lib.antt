@@ -11,3 +11,4 @@ pub mod Crossing
 pub mod MemberCounts
 pub mod Counts
 pub mod Unfired
+mod Standings

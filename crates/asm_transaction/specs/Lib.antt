@@ -8,3 +8,4 @@ pub mod Record
 pub mod Popping
 pub mod Members
 pub mod Counting
+pub mod Standing

@@ -18,6 +18,7 @@ mod recording;
 mod refusing;
 mod scanning;
 mod staged;
+mod standing;
 mod tracking;
 mod transaction;
 

@@ -116,7 +116,7 @@ final class ConformanceTests {
             case "audit" -> audited(string(own));
             case "explain" -> quoted(Storage.explain(Storage.Form.valueOf(string(own)), string(words.get(1))));
             case "begin", "end", "get", "get_at", "see", "get_all", "has", "count_of", "size", "any", "count", "push", "push_move", "extend",
-                    "extend_move", "pop", "pop_move", "depth", "offer", "commit" -> ofStep(name, own, words.subList(1, words.size()));
+                    "extend_move", "pop", "pop_move", "step_stands", "depth", "offer", "commit" -> ofStep(name, own, words.subList(1, words.size()));
             case "read" -> read(own, agents.get(own), words.get(1));
             default -> ofAgent(name, agents.get(own), words.subList(1, words.size()));
         };
@@ -209,6 +209,7 @@ final class ConformanceTests {
             case "push" -> nothing(all == null ? () -> step.push(words.get(0)) : () -> step.push(all));
             case "extend" -> nothing(all == null ? () -> step.extend(words.get(0)) : () -> step.extend(all));
             case "pop" -> nothing(step::pop);
+            case "step_stands" -> step.stands().map(at -> "{\"stale\":" + at.json() + "}").orElse("null");
             case "depth" -> "" + step.depth();
             case "offer" -> isRecording ? TableWords.offer(step.offer()) : step.offerText();
             case "commit" -> isRecording ? TableWords.fired(step.tryCommit(), true)

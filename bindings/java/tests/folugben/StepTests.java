@@ -5,8 +5,10 @@ import static folugben.Test.Checks.refused;
 import static folugben.Test.Checks.refusedAt;
 import static folugben.Test.Checks.thrown;
 
+import java.time.Duration;
 import java.util.List;
 import java.util.Map;
+import java.util.Optional;
 import java.util.function.Supplier;
 
 /** Tests of rules, of threads that share a step, and of what is said of refused texts. */
@@ -26,6 +28,30 @@ final class StepTests {
 
     static String seen(int number, String values) {
         return "{\"number\":" + number + ",\"values\":[" + values + "]}";
+    }
+
+    /** A wait ends with its time, a write, or an interrupt. */
+    static void waits() {
+        try (Storage storage = new Storage(INIT, 8); Agent agent = storage.agent(0);
+                Agent rival = storage.agent(1); Step step = agent.step()) {
+            step.getLong(Location.of("x"));
+            rival.tryFire(put("z", "1"), "[]");
+            equal(step.await(Duration.ofMillis(1)), false);
+            equal(step.stands(), Optional.empty());
+            Thread writer = new Thread(() -> rival.tryFire(inc("x", 1), "[]"));
+            writer.start();
+            boolean isWritten = step.await(Duration.ofMinutes(1));
+            writer.join();
+            equal(isWritten, true);
+            equal(step.stands(), Optional.of(Location.of("x")));
+            try (Step other = agent.step()) {
+                Thread.currentThread().interrupt();
+                other.await(Duration.ofMinutes(1));
+                throw new IllegalStateException("not interrupted");
+            }
+        } catch (InterruptedException error) {
+            equal(Thread.interrupted(), false);
+        }
     }
 
     /** A rule that commits its step ends the play with that move. */
@@ -170,6 +196,7 @@ final class StepTests {
     static void all() throws InterruptedException {
         valuesOfOneKind();
         System.out.println("values of one kind");
+        waits();
         rulesCommit();
         agentsAreOfOneThread();
         System.out.println("rules that commit, and two threads");
