@@ -618,6 +618,13 @@ FOLUGBEN_NODISCARD int32_t asm_push_move(struct asm_agent *agent, struct asm_ste
 FOLUGBEN_NODISCARD int32_t asm_extend_move(struct asm_agent *agent, struct asm_step *step,
     struct asm_move *move, uint8_t *out, size_t room, size_t *written);
 
+/* Pushes the move of one instruction at a prepared location. It does what asm_instruct into an empty
+ * slot and then asm_push_move of that slot do, with less memory and in less time. The codes are those
+ * of asm_instruct except ASM_TAKEN, and then those of asm_push_move. ASM_EMPTY: one of the slots. */
+FOLUGBEN_NODISCARD int32_t asm_push_at(struct asm_agent *agent, struct asm_step *step,
+    struct asm_location *at, int32_t verb, int32_t kind, int64_t number, const uint8_t *bytes,
+    size_t len, uint32_t amount, uint8_t *out, size_t room, size_t *written);
+
 /* OF ONE KIND: asm_get_at and asm_instruct for a number, a truth value or a text. A get returns
  * their codes, and ASM_SHAPE for a value of another kind, such as that of a location that holds
  * nothing; what it writes is 0 then, as with each code except ASM_DONE. After ASM_SHAPE the location

@@ -719,6 +719,11 @@ class operand {
     code into(struct asm_move *move, const location &at, asm_verb verb, std::uint32_t amount) const noexcept {
         return code{asm_instruct(move, at.get(), verb, kind_, number_, detail::bytes(text()), text().size(), amount)};
     }
+    code push_on(struct asm_agent *agent, struct asm_step *step, const location &at, asm_verb verb, std::uint32_t amount,
+                 std::uint8_t *out, std::size_t room, std::size_t *written) const noexcept {
+        return code{asm_push_at(agent, step, at.get(), verb, kind_, number_, detail::bytes(text()), text().size(), amount, out, room,
+                                written)};
+    }
     code count_in(struct asm_agent *agent, struct asm_step *step, const location &at, std::uint32_t &count) const noexcept {
         return code{asm_count_of(agent, step, at.get(), kind_, number_, detail::bytes(text()), text().size(), &count)};
     }
@@ -1062,6 +1067,9 @@ class step {
         const code it = try_push(move, text);
         detail::done(it, std::move(text));
     }
+    // Pushes the move of one instruction, which is made at once. The codes are those of instructions::try_instruct and try_push.
+    [[nodiscard]] code try_push(asm_verb verb, const location &at, const operand &what, std::uint32_t amount, std::string &text) noexcept;
+    void push(asm_verb verb, const location &at, const operand &what, std::uint32_t amount = 0);
     [[nodiscard]] code try_extend(const instructions &move, std::string &text) noexcept;
     void extend(const instructions &move) {
         std::string text;
@@ -1475,6 +1483,22 @@ code step::grow(Call call, ByText by_text, const instructions &move, std::string
 
 inline code step::try_push(const instructions &move, std::string &text) noexcept {
     return grow(asm_push_move, asm_push, move, text);
+}
+inline code step::try_push(asm_verb verb, const location &at, const operand &what, std::uint32_t amount,
+                           std::string &text) noexcept try {
+    return detail::text_of_call(
+        [&](auto *out, auto room, auto *written) {
+            return static_cast<std::int32_t>(what.push_on(get_agent(), slot_.get(), at, verb, amount, out, room, written));
+        },
+        text);
+} catch (const std::bad_alloc &) {
+    return code::memory;
+}
+inline void step::push(asm_verb verb, const location &at, const operand &what, std::uint32_t amount) {
+    std::string text;
+    const code it = try_push(verb, at, what, amount, text);
+    if (detail::is_refused(it) || it == code::operand) instructions().with(verb, at, what, amount); // which throws what is wrong
+    detail::done(it, std::move(text));
 }
 inline code step::try_extend(const instructions &move, std::string &text) noexcept {
     return grow(asm_extend_move, asm_extend, move, text);

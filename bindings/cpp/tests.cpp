@@ -18,6 +18,7 @@ static_assert(!std::is_copy_constructible_v<folugben::agent> && std::is_nothrow_
 static_assert(!std::is_copy_constructible_v<folugben::step> && std::is_move_constructible_v<folugben::step>);
 static_assert(!std::is_copy_constructible_v<folugben::auditor> && std::is_move_constructible_v<folugben::auditor>);
 static_assert(noexcept(std::declval<folugben::step &>().try_push(std::declval<const folugben::instructions &>(), std::declval<std::string &>())));
+static_assert(noexcept(std::declval<folugben::step &>().try_push(ASM_PUT, std::declval<const folugben::location &>(), std::declval<const folugben::operand &>(), 0, std::declval<std::string &>())));
 static_assert(noexcept(std::declval<folugben::step &>().try_extend(std::declval<const folugben::instructions &>(), std::declval<std::string &>())));
 static_assert(!std::is_convertible_v<std::uint64_t, folugben::element> && !std::is_convertible_v<double, folugben::element>);
 static_assert(!std::is_convertible_v<std::uint64_t, folugben::operand> && !std::is_convertible_v<double, folugben::operand>);

@@ -76,18 +76,27 @@ static void play(size_t agent, size_t first, size_t gets, size_t puts) {
     REQUIRE(asm_commit(&agents[agent], &steps[agent], &numbers) == ASM_DONE);
 }
 
-static void step(size_t i) { play(0, i * STRIDE % used, 1, 1); }
-static void turn(size_t i) { play(i % AGENTS, i * STRIDE % used, 1, 1); }
+/* The agent's step gets one location, and pushes a put there, without a slot for the move. */
+static void put(size_t agent, size_t place) {
+    asm_value value = {0, 0};
+    REQUIRE(asm_begin(&agents[agent], &steps[agent], &number) == ASM_DONE);
+    REQUIRE(asm_get_at(&agents[agent], &steps[agent], &at[place], &value, OUT) == ASM_DONE);
+    REQUIRE(asm_push_at(&agents[agent], &steps[agent], &at[place], ASM_PUT, ASM_KIND_NUM,
+                        value.number + 1, NULL, 0, 0, OUT) == ASM_DONE);
+    REQUIRE(asm_commit(&agents[agent], &steps[agent], &numbers) == ASM_DONE);
+}
+
+static void step(size_t i) { put(0, i * STRIDE % used); }
+static void slot_step(size_t i) { play(0, i * STRIDE % used, 1, 1); }
+static void turn(size_t i) { put(i % AGENTS, i * STRIDE % used); }
 static void gets_and_puts(size_t i) { play(0, i * STRIDE % locations, 16, 4); }
 static void gets(size_t i) { play(0, i * STRIDE % locations, 64, 0); }
 static void single_gets(size_t i) { play(0, i * STRIDE % locations, 256, 0); }
 
 static void increment(size_t i) {
     REQUIRE(asm_begin(&agents[0], &steps[0], &number) == ASM_DONE);
-    REQUIRE(asm_instruct(&move, &at[i * STRIDE % locations], ASM_INC, ASM_KIND_NUM, 1, NULL, 0,
-                         0) == ASM_DONE);
-    REQUIRE(asm_push_move(&agents[0], &steps[0], &move, OUT) == ASM_DONE);
-    asm_free_move(&move);
+    REQUIRE(asm_push_at(&agents[0], &steps[0], &at[i * STRIDE % locations], ASM_INC, ASM_KIND_NUM, 1,
+                        NULL, 0, 0, OUT) == ASM_DONE);
     REQUIRE(asm_commit(&agents[0], &steps[0], &numbers) == ASM_DONE);
 }
 
@@ -150,6 +159,7 @@ static const struct work {
     void (*last)(void);
 } works[] = {
     {"step", step, NULL},
+    {"slot_step", slot_step, NULL},
     {"turn", turn, NULL},
     {"close", step, close_all},
     {"check", step, close_and_check},

@@ -102,6 +102,9 @@ static void call_step(void) {
     SAYS(LEVEL, "", asm_extend_move(&agents[0], &step, &move, SAID));
     SAYS(LEVEL, "", (asm_push(&agents[0], &step, TEXT("[['inc',['f',2],5]]"), SAID)));
     DOES(LEVEL, asm_pop(&step));
+    SAYS(LEVEL, "",
+         asm_push_at(&agents[0], &step, &place, ASM_INC, ASM_KIND_NUM, 5, NULL, 0, 0, SAID));
+    DOES(LEVEL, asm_pop(&step));
     REQUIRE(asm_depth(&step) == 1);
     DOES(LEVEL, asm_offer(&step, SAID));
     DOES(LEVEL, asm_commit(&agents[0], &step, &numbers));

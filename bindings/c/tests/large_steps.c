@@ -104,6 +104,9 @@ static void call_beside_pushed(size_t count) {
              asm_get(&agents[0], &step, TEXT("[['n']]"), SAID));
         SAYS(LEVEL, "", asm_push(&agents[0], &step, TEXT("[['inc',['n'],1]]"), SAID));
         DOES(LEVEL, asm_pop_move(&step, &move));
+        SAYS(LEVEL, "",
+             asm_push_at(&agents[0], &step, &place, ASM_INC, ASM_KIND_NUM, 1, NULL, 0, 0, SAID));
+        DOES(LEVEL, asm_pop(&step));
     }
     REQUIRE(asm_depth(&step) == count);
     DOES(LINEAR, asm_offer(&step, SAID));

@@ -168,6 +168,12 @@ static void put_all(void) {
                           values[i].length - 2 * is_text, 0));
     }
     SAYS(LINEAR, "", asm_push_move(&agents[0], &step, &move, SAID));
+    for (size_t i = 0; i < KINDS; i++) {
+        bool is_text = i == 2;
+        SAYS(LINEAR, "",
+             asm_push_at(&agents[0], &step, &places[i], ASM_PUT, kinds[i], 0,
+                         bytes(values[i].at) + is_text, values[i].length - 2 * is_text, 0, SAID));
+    }
     DOES(LINEAR, asm_offer(&step, SAID));
     DOES(LINEAR, asm_commit(&agents[0], &step, &numbers));
     DOES(LINEAR, asm_follow(&agents[0], &number));

@@ -194,28 +194,35 @@ static const struct {
     {9, ASM_KIND_NUM, 1, "", 0, ASM_OPERAND, PLACES, 0},
 };
 
+#define PARTS(i)                                                                                   \
+    (i).verb, (i).kind, (i).number, *(i).bytes ? (const uint8_t *)(i).bytes : NULL,                \
+        strlen((i).bytes), (i).amount
+
+/* The move has the instruction too. */
+static void gathers(gathered *move, unsigned i) {
+    unsigned place = instructions[i].place;
+    move->size++;
+    move->raises += place == X_PLACE;
+    move->puts |= place == Y_PLACE;
+    move->values |= (place == V_PLACE) << instructions[i].value;
+    move->adds |= instructions[i].verb == ASM_ADD;
+    move->removes |= instructions[i].verb == ASM_REMOVE;
+}
+
 static void instructs(unsigned at, unsigned of_place) {
     unsigned i = below(sizeof instructions / sizeof *instructions);
     account *m = &accounts[at];
     const account *l = &accounts[of_place];
-    const char *text = instructions[i].bytes;
     int32_t wanted = m->kind != NOTHING && m->kind != MOVE ? ASM_TAKEN
                      : l->kind != LOCATION                 ? ASM_EMPTY
                                                            : instructions[i].code;
     if (wanted == ASM_DONE && instructions[i].place != l->place)
         return;
-    REQUIRE(asm_instruct(ANY(at), ANY(of_place), instructions[i].verb, instructions[i].kind,
-                         instructions[i].number, *text ? (const uint8_t *)text : NULL, strlen(text),
-                         instructions[i].amount) == wanted);
+    REQUIRE(asm_instruct(ANY(at), ANY(of_place), PARTS(instructions[i])) == wanted);
     if (wanted != ASM_DONE)
         return;
     m->kind = MOVE;
-    m->move.size++;
-    m->move.raises += l->place == X_PLACE;
-    m->move.puts |= l->place == Y_PLACE;
-    m->move.values |= (l->place == V_PLACE) << instructions[i].value;
-    m->move.adds |= instructions[i].verb == ASM_ADD;
-    m->move.removes |= instructions[i].verb == ASM_REMOVE;
+    gathers(&m->move, i);
 }
 
 /* Reads an instruction, or a place behind the last one. */
@@ -310,21 +317,49 @@ static const char *is_done(const gathered *move, layer *on) {
     return NULL;
 }
 
+/* The answer to a push of the move, or to an extension by it, and the layer that it leaves. */
+static outcome grown(const account *a, account *s, const gathered *move, bool is_push, layer *next) {
+    outcome wanted = {step_code(a, s, ASM_DONE), NULL};
+    if (wanted.code != ASM_DONE)
+        return wanted;
+    *next = top_of(s);
+    if (is_push || s->depth == 0)
+        next->own = (gathered){0};
+    if (is_push && s->depth == DEEPEST)
+        wanted.code = ASM_DEEP;
+    else if ((wanted.text = is_done(move, next)))
+        wanted.code = ASM_CLASH;
+    return wanted;
+}
+
+/* Pushes an instruction without a slot for its move. */
+static void pushes_at(unsigned at, unsigned of_step, unsigned of_place) {
+    unsigned i = below(sizeof instructions / sizeof *instructions);
+    const account *a = &accounts[at], *l = &accounts[of_place];
+    account *s = &accounts[of_step];
+    buffer b = any_buffer();
+    gathered move = {0};
+    layer next = {0};
+    outcome wanted = {l->kind != LOCATION ? ASM_EMPTY : instructions[i].code, NULL};
+    if (wanted.code == ASM_DONE && instructions[i].place != l->place)
+        return;
+    if (wanted.code == ASM_DONE) {
+        gathers(&move, i);
+        wanted = grown(a, s, &move, true, &next);
+    }
+    int32_t code = asm_push_at(ANY(at), ANY(of_step), ANY(of_place), PARTS(instructions[i]), OUT(b));
+    if (is_written(code, wanted, &b) && wanted.code == ASM_DONE)
+        s->layers[s->depth++] = next;
+}
+
 static void grows_by(unsigned at, unsigned of_step, unsigned of_move, bool is_push) {
     const account *a = &accounts[at], *m = &accounts[of_move];
     account *s = &accounts[of_step];
     buffer b = any_buffer();
-    outcome wanted = {m->kind != MOVE ? ASM_EMPTY : step_code(a, s, ASM_DONE), NULL};
     layer next = {0};
-    if (wanted.code == ASM_DONE) {
-        next = top_of(s);
-        if (is_push || s->depth == 0)
-            next.own = (gathered){0};
-        if (is_push && s->depth == DEEPEST)
-            wanted.code = ASM_DEEP;
-        else if ((wanted.text = is_done(&m->move, &next)))
-            wanted.code = ASM_CLASH;
-    }
+    outcome wanted = {ASM_EMPTY, NULL};
+    if (m->kind == MOVE)
+        wanted = grown(a, s, &m->move, is_push, &next);
     int32_t code = (is_push ? asm_push_move : asm_extend_move)(ANY(at), ANY(of_step),
                                                                ANY(of_move), OUT(b));
     if (is_written(code, wanted, &b) && wanted.code == ASM_DONE) {
@@ -376,9 +411,13 @@ void calls_any_plain(unsigned at, unsigned other) {
     unsigned of_step = fitting(at, other);
     at = below(4) ? some(AGENT, at) : at;
     of_step = below(4) ? fitting(at, of_step) : of_step;
-    switch (below(13)) {
-    case 12:
+    switch (below(14)) {
+    case 13:
         reads_instruction(some(MOVE, other));
+        break;
+    case 12:
+        if (have_meaning(at, of_step))
+            pushes_at(at, of_step, some(LOCATION, other));
         break;
     case 11:
         if (have_meaning(at, of_step))

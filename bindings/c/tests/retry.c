@@ -261,6 +261,40 @@ static void read_at(uint32_t place, int32_t kind, const char *text) {
     REQUIRE(is_same(move, was) && asm_move_length(&move) == 2);
 }
 
+/* Pushes this one instruction; a refusal has this text. */
+static void push_at(struct asm_location *place, int32_t verb, int32_t kind, int64_t number,
+                    const char *text, int32_t code, const char *left) {
+    uint8_t out[ROOM];
+    size_t written;
+    REQUIRE(ON_STEP(asm_push_at(&agents[0], &step, place, verb, kind, number, bytes(text), strlen(text),
+                                0, out, sizeof out, &written)) == code);
+    REQUIRE(has(out, written, code == ASM_DONE ? "" : left));
+    if (code == ASM_DONE) {
+        depth++;
+        seen = left;
+        is_unchanged();
+    }
+}
+
+/* Pushes without a slot for the move. */
+static void run_pushed_at(void) {
+    push_at(&at[0], ASM_INC, ASM_KIND_NUM, 2, "", ASM_DONE,
+            "{'number':1,'values':[10,{'set':[1,3,'two']}]}");
+    push_at(&at[1], ASM_ADD, ASM_KIND_LIST, 0, "{\"list\":[2]}", ASM_CLASH,
+            "{'clash':[['u','why'],'Kind']}");
+    push_at(&at[1], ASM_PUT, ASM_KIND_TEXT, 0, "text", ASM_DONE,
+            "{'number':1,'values':[10,{'set':[1,3,'two']}]}");
+    push_at(&at[0], ASM_PUT, ASM_KIND_SET, 0, "{\"set\":[1,{\"list\":[2]}]}", ASM_DONE,
+            "{'number':1,'values':[{'set':[1,{'list':[2]}]},{'set':[1,3,'two']}]}");
+    get_at(&at[1], ASM_KIND_TEXT, 0, "text");
+    while (depth) {
+        REQUIRE(AGAIN(asm_pop(&step)) == ASM_DONE);
+        depth--;
+    }
+    seen = "{'number':1,'values':[8,{'set':[1,3,'two']}]}";
+    is_unchanged();
+}
+
 /* A step without text, which is abandoned. */
 static void run_plain(void) {
     uint8_t out[ROOM];
@@ -307,6 +341,7 @@ static void run_plain(void) {
     REQUIRE(number == 1 && value.kind == ASM_KIND_NUM && value.number == 8);
     asm_free_move(&move);
     run_united();
+    run_pushed_at();
     asm_free_step(&step);
     asm_free_location(&at[0]);
     asm_free_location(&at[1]);

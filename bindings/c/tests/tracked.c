@@ -27,6 +27,16 @@ static void gathers(const char *location, int32_t verb, int32_t kind, int64_t nu
     asm_free_location(&at);
 }
 
+/* Takes two of the bag's one element, by a call at its location. */
+static int32_t pushes_at(const char *location, uint8_t *out, size_t room, size_t *written) {
+    struct asm_location at = {0};
+    REQUIRE(asm_location(TEXT(location), &at) == ASM_DONE);
+    int32_t code = asm_push_at(&agents[0], &step, &at, ASM_BAGREMOVE, ASM_KIND_TEXT, 0, bytes("e"), 1,
+                               2, out, room, written);
+    asm_free_location(&at);
+    return code;
+}
+
 /* Each call that puts a move onto a step; it takes two of the bag's one element. */
 static int32_t takes_two(int way, uint8_t *out, size_t room, size_t *written) {
     const char *text = "[['bagremove',['b'],'e',2]]";
@@ -39,6 +49,8 @@ static int32_t takes_two(int way, uint8_t *out, size_t room, size_t *written) {
         return asm_extend(&agents[0], &step, TEXT(text), out, room, written);
     case 2:
         return asm_push_move(&agents[0], &step, &move, out, room, written);
+    case 3:
+        return pushes_at("['b']", out, room, written);
     default:
         return asm_extend_move(&agents[0], &step, &move, out, room, written);
     }
@@ -46,7 +58,7 @@ static int32_t takes_two(int way, uint8_t *out, size_t room, size_t *written) {
 
 /* A refusal reveals a location to the step, also if its text has no room. */
 static void refusals_without_room(void) {
-    for (int way = 0; way < 4; way++) {
+    for (int way = 0; way < 5; way++) {
         size_t written;
         begin_at_shelf();
         REQUIRE(takes_two(way, NULL, 0, &written) == ASM_SMALL && written > 0);

@@ -208,6 +208,7 @@ typedef struct {
 } Change;
 int change_begin(Core *core, Change *its, PyObject *const *words, Py_ssize_t count, int verb);
 int32_t change_put(Change *its, struct asm_move *move);
+int32_t change_push(Change *its, Step *step, Room *room);
 uint64_t change_size(Change *its);
 PyObject *refuse_change(Core *core, Change *its);
 void change_end(Change *its);

@@ -215,6 +215,21 @@ int32_t change_put(Change *its, struct asm_move *move)
     return its->code;
 }
 
+/* Pushes a move of it alone. Its own code is that of the instruction. */
+int32_t change_push(Change *its, Step *step, Room *room)
+{
+    int32_t code = its->code = prepare_place(&its->place);
+    its->is_placed = code == ASM_DONE;
+    if (!its->is_placed)
+        return code;
+    struct asm_location *at = AT(&its->place);
+    WITH_ROOM(code, room, asm_push_at(SLOT(step->agent), SLOT(step), at, its->verb, its->kind, its->number, its->at, its->len,
+        its->amount, ROOM(room)));
+    if (code == ASM_OPERAND || code == ASM_NOT_JSON || code == ASM_SHAPE || !at->slot.full)
+        its->code = code;
+    return code;
+}
+
 uint64_t change_size(Change *its)
 {
     return its->len + place_len(&its->place);

@@ -293,10 +293,23 @@ PyObject *step_extend(Step *self, PyObject *move)
     return grow(self, asm_extend, asm_extend_move, move);
 }
 
+/* Has an instruction join the move that was pushed last. Without one it is pushed, and needs no slot for its move. */
+static int32_t join_last(Step *self, Change *its, Room *room)
+{
+    struct asm_move move = {0};
+    int32_t code;
+    if (asm_depth(SLOT(self)) == 0)
+        return change_push(its, self, room);
+    code = change_put(its, &move);
+    if (code == ASM_DONE)
+        WITH_ROOM(code, room, asm_extend_move(SLOT(self->agent), SLOT(self), &move, ROOM(room)));
+    asm_free(&move.slot);
+    return code;
+}
+
 /* Has an instruction that is no addition join the move that was pushed last. Returns non-zero with an exception. */
 static int extend_by(Step *self, Change *its)
 {
-    struct asm_move move = {0};
     Room room;
     size_t len;
     if (settle(self))
@@ -304,10 +317,7 @@ static int extend_by(Step *self, Change *its)
     const char *at = text_of_place(&its->place, &len);
     forget_accepted(self, at, len);
     room_begin(&room);
-    int32_t code = change_put(its, &move);
-    if (code == ASM_DONE)
-        WITH_ROOM(code, &room, asm_extend_move(SLOT(self->agent), SLOT(self), &move, ROOM(&room)));
-    asm_free(&move.slot);
+    int32_t code = join_last(self, its, &room);
     self->size += change_size(its);
     if (code == ASM_DONE)
         grow_by_push(self, its->verb != ASM_PUT);

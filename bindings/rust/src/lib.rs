@@ -72,6 +72,7 @@ mod owned_slot;
 mod play;
 mod prepared;
 mod prepared_iter;
+mod pushed_at;
 mod run;
 mod step;
 mod storage;

@@ -80,6 +80,21 @@ pub(crate) fn operand_of(value: Value) -> (i32, i64, String) {
     }
 }
 
+/// Why kind, number and bytes made no instruction at the location, if the code says that they made none.
+pub(crate) fn expect_instructed(code: i32, at: &Prepared, bytes: &str, amount: u32) -> Result<(), Error> {
+    match code {
+        sys::NOT_JSON | sys::SHAPE => {
+            let call = format!("{{\"fire\":[[\"put\",{},{bytes}]],\"reads\":[]}}", at.location.json());
+            done_with(code, sys::FORM_MOVE, &call)
+        }
+        sys::OPERAND => {
+            let most = u32::MAX.into();
+            Err(Error::Range(OutOfRange { what: "the amount", value: amount.into(), least: 1, most }))
+        }
+        _ => Ok(()),
+    }
+}
+
 /// A move that is gathered at prepared locations, instruction by instruction.
 ///
 /// A text is made of lists, sets and bags alone. More can be gathered after what [`Step::pop_move`](crate::Step::pop_move)
@@ -131,17 +146,8 @@ impl PreparedMove {
             let (slot, place) = (self.slot.at(), at.slot.at());
             sys::asm_instruct(slot, place, verb, kind, number, bytes.as_ptr(), bytes.len(), amount)
         };
-        match code {
-            sys::NOT_JSON | sys::SHAPE => {
-                let call = format!("{{\"fire\":[[\"put\",{},{bytes}]],\"reads\":[]}}", at.location.json());
-                done_with(code, sys::FORM_MOVE, &call)?;
-            }
-            sys::OPERAND => {
-                let most = u32::MAX.into();
-                return Err(Error::Range(OutOfRange { what: "the amount", value: amount.into(), least: 1, most }));
-            }
-            code => done(code)?,
-        }
+        expect_instructed(code, at, &bytes, amount)?;
+        done(code)?;
         self.size += at.size + bytes.len();
         Ok(self)
     }

@@ -266,6 +266,20 @@ unsafe extern "C" {
         room: usize,
         written: *mut usize,
     ) -> i32;
+    pub(crate) fn asm_push_at(
+        agent: *mut Slot,
+        step: *mut Slot,
+        at: *mut Slot,
+        verb: i32,
+        kind: i32,
+        number: i64,
+        bytes: *const u8,
+        len: usize,
+        amount: u32,
+        out: *mut u8,
+        room: usize,
+        written: *mut usize,
+    ) -> i32;
     pub(crate) fn asm_seen(agent: *mut Slot) -> u32;
     pub(crate) fn asm_won(agent: *mut Slot) -> u32;
     pub(crate) fn asm_misses(agent: *mut Slot) -> u64;

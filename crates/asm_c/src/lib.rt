@@ -24,6 +24,8 @@ mod own_state;
 #[tactic(auto, using(asm_slots::proofs::Answered::answers))]
 mod pushing;
 #[tactic(auto, using(asm_slots::proofs::Answered::answers))]
+mod pushing_at;
+#[tactic(auto, using(asm_slots::proofs::Answered::answers))]
 mod read_and_fire;
 #[tactic(auto, using(asm_slots::proofs::Answered::answers))]
 mod reading_moves;

@@ -1,6 +1,7 @@
 -- Moves that are put onto the transaction in a slot.
-use Rattle.std.proofs.Common.{◌≡◌, ◌≤◌, ◌∙◌, ℕ, List, Option, Some, Result, Ok, Err, inr, length, refl, subst, sym}
+use Rattle.std.proofs.Common.{◌≡◌, ◌≤◌, ◌∙◌, ℕ, ℤ, List, [], Option, Some, Result, Ok, Err, inr, length, refl, subst, sym}
 use Rattle.std.specs.Prelude.{IfErr, MatchResult, OnOk}
+use Rattle.asm_element.specs.Place.{Place}
 use Rattle.asm_state.specs.View.{StateView}
 use Rattle.asm_step.specs.declared.error.StepError.{StepError}
 use Rattle.asm_step.specs.declared.error.StepError.TheVariants.{Deep}
@@ -10,9 +11,11 @@ use Rattle.asm_transaction.specs.Reading.{IsOf}
 use Rattle.asm_transaction.specs.View.{TransactionView, pushed}
 use Rattle.asm_update.specs.Move.{Move}
 use Rattle.asm_slots.specs.Bytes.{ReadAsMove}
+use Rattle.asm_slots.specs.Kinds.{IsInstructed}
+use Rattle.asm_slots.specs.PushAnswers.{DoesNotPushAt, IsMoveAt, PushesAt}
 use Rattle.asm_slots.specs.Slots.{HoldBoth, Holds, a_step}
 use Rattle.asm_slots.specs.Standard.{Standard, meaning}
-use Rattle.asm_slots.specs.StepAnswers.{DoesNotGrow, Grows}
+use Rattle.asm_slots.specs.StepAnswers.{DoesNotGrow, DoesNotGrowBy, Grows, GrowsBy}
 use Rattle.asm_slots.specs.StepCalls.{HasGrown, HasReached, IsGrown, IsNotGrown, IsPushError, grown}
 use Rattle.asm_slots.specs.WrittenText.{WritesNothing}
 use Rattle.asm_slots.specs.declared.codes.Code.{Code}
@@ -77,3 +80,16 @@ grown_of way bytes M agent step after a s t out out_after n (Ok u) e f g reads g
 grown_of way bytes M agent step after a s t out out_after n (Err c) e f g reads grown unwritten none =
     inr (hold_three agent step after a s t (λ b x y. (N : Move) × ReadAsMove bytes N × IsNotGrown way N b x y out out_after n c) e f g
     (M, reads, none))
+
+-- the same of the move of one instruction at the location of a slot
+pub pushed_at : (at : Option Content) (verb kind number : ℤ) (bytes : List ℕ) (amount : ℕ) (l : Place) (M : Move)
+    (agent step after : Option Content) (out out_after : List ℕ) (n : ℕ) (r : Result (Unit {0}) Code) → at ≡ Some (content.Location l) →
+    IsInstructed l verb kind number bytes amount [] M →
+    MatchResult r (λ done. GrowsBy ways.Push (Some (content.Move M)) agent step after out out_after n)
+    (DoesNotGrowBy ways.Push (Some (content.Move M)) agent step after out out_after n) →
+    MatchResult r (λ done. PushesAt at verb kind number bytes amount agent step after out out_after n)
+    (DoesNotPushAt at verb kind number bytes amount agent step after out out_after n)
+pushed_at at verb kind number bytes amount l M agent step after out out_after n (Ok u) is made grown =
+    (M, subst (λ (x : Option Content). IsMoveAt x verb kind number bytes amount M) (sym is) made, grown)
+pushed_at at verb kind number bytes amount l M agent step after out out_after n (Err c) is made none =
+    inr (M, subst (λ (x : Option Content). IsMoveAt x verb kind number bytes amount M) (sym is) made, none)

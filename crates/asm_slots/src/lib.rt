@@ -29,6 +29,7 @@ mod owned_agent;
 mod parsing;
 pub mod popping;
 pub mod pushing;
+pub mod pushing_at;
 mod raw_box;
 pub mod read_and_fire;
 pub mod reading_moves;

@@ -1,11 +1,12 @@
 //! Pushing moves onto a step, and extending the one that was pushed last.
 #![tactic(auto, unfolding(asm_aggregate::specs::Standard::standard_meaning))]
 
-ghost use Rattle.std.specs.Prelude.{◌≡◌, string_bytes, IfErr, IfOk, MatchResult, OnErr, OnOk};
+ghost use Rattle.std.specs.Prelude.{◌≡◌, string_bytes, IfErr, IfOk, MatchResult, OnErr, OnOk, Some};
 ghost use Rattle.asm_slots.specs.StepAnswers.{DoesNotGrow, DoesNotGrowBy, Grows, GrowsBy};
 ghost use Rattle.asm_slots.specs.Slots.{content_of};
 ghost use Rattle.asm_slots.specs.StepCalls.{Errs, IsGrown, IsNotGrown, IsPushError, ReportsRefusal};
 ghost use Rattle.asm_slots.specs.WrittenText.{WritesNothing};
+ghost use Rattle.asm_slots.specs.declared.content.Content.TheVariants as content;
 ghost use Rattle.asm_transaction.specs.Reading.{HasTracked, IsUntracked};
 ghost use Rattle.asm_transaction.specs.Tracked.{refusal_places};
 
@@ -136,6 +137,29 @@ pub fn grow_of(
     lend!(step: Step = step, Err(Code::Empty));
     let instrs = move_of(alloc, instrs)?;
     grow_by(alloc, agent, step, way, &instrs, out, written)
+}
+
+/// Do what `asm_push_move` or `asm_extend_move` does, with a move that no slot holds.
+pub(crate) fn grow_with(
+    alloc: Global,
+    agent: &mut Slot,
+    step: &mut Slot,
+    way: PushMode,
+    instrs: &Instructions,
+    out: &mut [u8],
+    written: &mut usize,
+) -> Result<(), Code>
+    requires { written.old ≡ 0 }
+    ensures answers { MatchResult result
+        (λ done. GrowsBy way (Some (content.Move instrs.now)) (content_of agent.old) (content_of step.old) (content_of step.new)
+        out.old out.new written.new)
+        (DoesNotGrowBy way (Some (content.Move instrs.now)) (content_of agent.old) (content_of step.old) (content_of step.new)
+        out.old out.new written.new) }
+    ensures kept { content_of agent.new ≡ content_of agent.old }
+{
+    lend!(agent: Agent = agent, Err(Code::Empty));
+    lend!(step: Step = step, Err(Code::Empty));
+    grow_by(alloc, agent, step, way, instrs, out, written)
 }
 
 /// Do what `asm_push_move` or `asm_extend_move` does.
