@@ -1,9 +1,9 @@
 //! An agent's own state: its text, values at locations, and the validation of declared reads.
-ghost use Rattle.std.specs.Prelude.{◌≡◌, string_bytes, IfErr, IfOk, MatchResult, OnErr, map, Some};
+ghost use Rattle.std.specs.Prelude.{◌≡◌, string_bytes, IfErr, IfOk, MatchResult, OnErr, Some};
 ghost use Rattle.asm_slots.specs.AgentAnswers.{DoesNotValidate, Validates};
 ghost use Rattle.asm_slots.specs.Answers.{EmptyOr, IsMemory, IsNoName, IsUnreadAs};
 ghost use Rattle.asm_slots.specs.OwnState.{DoesNotFollow, Follows};
-ghost use Rattle.asm_slots.specs.OwnState.{IsOwnOfName, IsOwnState, IsPeek, IsPeekOf, IsStaleText, values_text};
+ghost use Rattle.asm_slots.specs.OwnState.{IsOwnOfName, IsOwnState, IsPeek, IsPeekOf, IsStaleText};
 ghost use Rattle.asm_slots.specs.Slots.{Holds, Lacks, an_agent, content_of};
 ghost use Rattle.asm_slots.specs.StepAnswers.{DoesNotPeekAt, IsNoValue, PeeksAt};
 ghost use Rattle.asm_explain.specs.Bytes.{AreLocations};
@@ -16,8 +16,8 @@ use crate::parsing::{locations_of, reads_of};
 use crate::slot::Slot;
 use crate::take_and_put::{put_agent, take_agent};
 use crate::value_head::{ValueHead, write_value_at};
-use asm_element::{Items, Location, Value};
-use asm_journal::{answer_text, state_text};
+use asm_element::{Location, Value};
+use asm_journal::{answer_text, state_text, values_text};
 use asm_storage::{Answer, ReadError, Reply};
 use asm_update::Lookup;
 use std::alloc::{AllocError, Global};
@@ -161,41 +161,12 @@ pub(crate) fn value_at<L: Lookup>(
     Value::copy_or_undef(alloc, seen.get(at))
 }
 
-fn values_at<L: Lookup>(
-    alloc: Global,
-    seen: &L,
-    locations: &[Location],
-) -> Result<Vec<Value>, AllocError>
-    ensures { IfOk result (λ values. values.items ≡ map (L.value_at seen.now) locations.now) }
-{
-    let mut values = Vec::new(alloc);
-    for at in locations {
-        values.push(value_at(alloc, seen, at)?)?;
-    }
-    Ok(values)
-}
-
-/// Return `{"number":N,"values":[VALUE, ..]}`.
-///
-/// The values are those that are seen at the locations at version N.
-pub(crate) fn text_of_values<L: Lookup>(
-    alloc: Global,
-    number: u32,
-    seen: &L,
-    locations: &[Location],
-) -> Result<String, AllocError>
-    ensures { IfOk result (λ text. string_bytes text ≡ values_text number (L.value_at seen.now) locations.now) }
-{
-    let values = Items::new(values_at(alloc, seen, locations)?);
-    answer_text(alloc, &Answer::Read { number, values })
-}
-
 // Return the text of the values at the locations.
 fn peeked(alloc: Global, agent: &OwnedAgent, locations: &[Location]) -> Result<String, AllocError>
     ensures { IfOk result (λ text. IsPeek locations.now agent.now (string_bytes text)) }
 {
     let state = agent.state();
-    let text = text_of_values(alloc, state.number(), state, locations)?;
+    let text = values_text(alloc, state.number(), state, locations)?;
     Ok(text)
 }
 

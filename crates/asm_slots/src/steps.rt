@@ -13,13 +13,14 @@ ghost use Rattle.asm_transaction.specs.Reading.{HasTracked, IsOf, IsShown, IsUnr
 use crate::codes::{Code, copy_into, fit, write};
 use crate::content::Content;
 use crate::lend;
-use crate::own_state::{text_of_values, value_at};
+use crate::own_state::value_at;
 use crate::owned_agent::OwnedAgent;
 use crate::parsing::locations_of;
 use crate::slot::Slot;
-use crate::value_head::{ValueHead, bytes_in, json_text};
+use crate::value_head::{ValueHead, bytes_in};
 use asm_aggregate::Standard;
 use asm_element::{Location, Value};
+use asm_journal::{value_text, values_text};
 use asm_transaction::Transaction;
 use std::alloc::Global;
 
@@ -69,7 +70,7 @@ fn seen_text(
     ensures err { IfErr result (Errs (IsUnseen agent.now.number step.now)) }
 {
     let seen = step.shows::<Standard>(agent.state())?;
-    Ok(text_of_values(alloc, step.number(), &seen, locations)?)
+    Ok(values_text(alloc, step.number(), &seen, locations)?)
 }
 
 /// Do what `asm_see` does.
@@ -199,7 +200,7 @@ fn get_value(
     if let Some(bytes) = bytes_in(value) {
         return get_bytes(alloc, step, at, bytes, out, written);
     }
-    let text = json_text(alloc, value)?;
+    let text = value_text(alloc, value)?;
     get_bytes(alloc, step, at, text.as_bytes(), out, written)
 }
 

@@ -1,5 +1,5 @@
 //! Values as kind, number and bytes.
-ghost use Rattle.std.specs.Prelude.{◌≡◌, pos, IfErr, IfNone, IfOk, IfSome, string_bytes};
+ghost use Rattle.std.specs.Prelude.{◌≡◌, pos, IfErr, IfNone, IfOk, IfSome};
 ghost use Rattle.serde_json.specs.Written.{compact_text};
 ghost use Rattle.asm_element.specs.declared.value.Value.TheVariants as values;
 ghost use Rattle.asm_journal.specs.Value.{value_json_of};
@@ -9,9 +9,9 @@ ghost use Rattle.asm_slots.specs.WrittenText.{HasNoText, HasText, IsWritten};
 
 use crate::codes::{Code, write};
 use asm_element::{Element, Location, Value};
-use asm_journal::value_json;
+use asm_journal::value_text;
 use asm_update::Lookup;
-use std::alloc::{AllocError, Global};
+use std::alloc::Global;
 
 pub(crate) const UNDEF: i32 = 0;
 
@@ -101,12 +101,6 @@ pub(crate) fn bytes_in(value: &Value) -> Option<&[u8]>
     }
 }
 
-pub(crate) fn json_text(alloc: Global, value: &Value) -> Result<String, AllocError>
-    ensures { IfOk result (λ text. string_bytes text ≡ compact_text (value_json_of value.now)) }
-{
-    value_json(alloc, value)?.to_string(alloc)
-}
-
 // Write the bytes of the value.
 fn write_bytes(
     alloc: Global,
@@ -120,7 +114,7 @@ fn write_bytes(
     if let Some(bytes) = bytes_in(value) {
         return write(bytes, out, written);
     }
-    let text = json_text(alloc, value)?;
+    let text = value_text(alloc, value)?;
     write(text.as_bytes(), out, written)
 }
 

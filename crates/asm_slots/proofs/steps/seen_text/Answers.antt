@@ -11,5 +11,5 @@ returns-clause-text c =
     let seen = seen_through c.in_ok-seen.seen.frames (value_at c.in_ok-seen.seen.below) in (
       seen,
       (λ own. c.in_ok-seen.ensures.shown c.args.agent.now c.state.ensures.following own),
-      c.in_ok-text_of_values.ensures ∙ ap (λ n. values_text n seen c.args.locations.now) c.number.ensures,
+      c.in_ok-values_text.ensures ∙ ap (λ n. values_text n seen c.args.locations.now) c.number.ensures,
     )
