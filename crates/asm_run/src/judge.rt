@@ -1,5 +1,5 @@
 //! What an audit says of the texts of a run, up to its first fault.
-ghost use Rattle.std.specs.Prelude.{◌≡◌, ◌++◌, [], ℕ, List, None, IfOk};
+ghost use Rattle.std.specs.Prelude.{◌≡◌, ◌++◌, [], ℕ, List, None, Some, IfOk, IfSome};
 ghost use Rattle.asm_audit.specs.Audited.{IsVerdict};
 ghost use Rattle.asm_run.specs.Judge.{Judges};
 
@@ -38,6 +38,7 @@ impl<A: Aggregator + Drop> Judge<A> {
             self.old.auditor.line.items self.old.fault →
             Judges (A.meaning self.old.auditor.auditor.aggregator).part
             (text ++ bytes.now) self.new.auditor.auditor.progress self.new.auditor.line.items self.new.fault }
+        ensures stays { IfSome self.old.fault (λ e. self.new.fault ≡ Some e) }
     {
         match self.fault {
             Some(_) => return,

@@ -1,6 +1,6 @@
 //! The segments of a run, read one after the other.
 ghost use Rattle.std.specs.Prelude.{◌≡◌, ◌≢◌, ◌⊎◌, ◌↔◌, ◌<◌, ◌+◌, ◌^◌, ◌++◌, ◌∷◌, [], ℕ, List};
-ghost use Rattle.std.specs.Prelude.{None, IfOk, IfErr, OnOk, OnErr, IsErrOf};
+ghost use Rattle.std.specs.Prelude.{None, Some, IfOk, IfErr, IfSome, OnOk, OnErr, IsErrOf};
 ghost use Rattle.asm_audit.specs.Audited.{IsVerdict};
 ghost use Rattle.asm_run.specs.Name.{IsName};
 ghost use Rattle.asm_run.specs.Protocol.{Segment};
@@ -66,6 +66,7 @@ impl<A: Aggregator + Drop> RunReader<A> {
             IsWithin self.new skipped segments name.now []) }
         ensures named { IfOk result (λ n. IsName name.now n × (n ≡ self.new.trail.segment.name)) }
         ensures length { OnOk result (self.new.trail.segment.length ≡ length) }
+        ensures judge { self.new.judge ≡ self.old.judge }
         ensures busy { IsErrOf result read_error.Busy ↔ (self.old.trail.place ≢ at.Between) }
         ensures error { IfErr result (IsRefusedName self.old.trail name.now length) }
         ensures unchanged { OnErr result (self.new ≡ self.old) }
@@ -91,6 +92,8 @@ impl<A: Aggregator + Drop> RunReader<A> {
         ensures fed { (skipped segments : List Segment) (title text : List ℕ) →
             IsWithin self.old skipped segments title text →
             IsWithin self.new skipped segments title (text ++ bytes.now) }
+        ensures stays { IfSome self.old.judge.fault (λ e. self.new.judge.fault ≡ Some e) }
+        ensures length { self.new.trail.segment.length ≡ self.old.trail.segment.length }
         ensures unchanged { self.old.trail.place ≢ at.Within → self.new ≡ self.old }
     {
         if !self.trail.place.is_within() {
@@ -155,6 +158,7 @@ impl<A: Aggregator + Drop> RunReader<A> {
         ensures error { IfErr result (λ e. (skipped segments : List Segment) (title text : List ℕ) →
             IsWithin self.old skipped segments title text →
             IsRefusedText (part_of self.old) self.old.trail segments text e) }
+        ensures fault { self.new.judge.fault ≡ self.old.judge.fault }
         ensures refused { OnErr result (self.old.trail.place ≡ at.Within →
             self.new.trail ≡ record self.old.trail { place = at.Refused; segment = self.new.trail.segment }) }
         ensures unchanged { self.old.trail.place ≢ at.Within → self.new ≡ self.old }
