@@ -77,7 +77,7 @@ run_of given words i o result same runs = subst (λ (w : Words). Runs w i o resu
 -- ---- what is written of an audit
 
 -- behind what was reported meanwhile
-writes_behind : (held mid holds : Known) (failed flushed : Bool) (reported text : List ℕ) (status result : ℕ) →
+pub writes_behind : (held mid holds : Known) (failed flushed : Bool) (reported text : List ℕ) (status result : ℕ) →
     Appends held mid reported → Writes (output_of mid holds failed flushed) status text result →
     Writes (output_of held holds failed flushed) status (reported ++ text) result
 writes_behind held mid holds failed flushed reported text status result before (inl (same, out)) = inl (

@@ -14,3 +14,6 @@ mod LinesTaken
 mod Windows
 mod PartsRead
 mod Ending
+mod Foldering
+mod Segmenting
+mod Folders

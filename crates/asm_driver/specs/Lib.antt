@@ -12,3 +12,5 @@ pub mod Window
 pub mod Explained
 pub mod Commands
 pub mod Run
+pub mod Folder
+pub mod Segments

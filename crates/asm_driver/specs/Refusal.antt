@@ -12,6 +12,8 @@ use Rattle.asm_driver.specs.declared.program.refusal.Line.{Line}
 use Rattle.asm_driver.specs.declared.program.refusal.Line.TheVariants.{Known, Made}
 use Rattle.asm_driver.specs.declared.program.refusal.Refusal.{Refusal}
 use Rattle.asm_driver.specs.declared.program.refusal.Refusal.TheVariants as refusal
+use Rattle.asm_driver.specs.declared.program.refusal.SegmentFault.{SegmentFault}
+use Rattle.asm_driver.specs.declared.program.refusal.SegmentFault.TheVariants as segment_fault
 use Rattle.asm_script.specs.declared.script.ScriptCause.{ScriptCause}
 use Rattle.asm_script.specs.declared.script.ScriptCause.TheVariants.{NotJson, Shape, Agents, Blocks, Instructions}
 use Rattle.asm_script.specs.declared.script.ScriptCause.TheVariants.{Reads}
@@ -79,6 +81,19 @@ part_line part fault = codes "part " ++ decimal part ++ codes " " ++ journal_lin
 abbrev pub few_calls_line : ℕ → ℕ → List ℕ
 few_calls_line part calls = line (codes "part " ++ decimal part ++ codes " has " ++ decimal calls ++ codes " calls")
 
+-- the word for a fault of a segment
+abbrev pub fault_word : SegmentFault → List ℕ
+fault_word segment_fault.Damaged = codes "damaged"
+fault_word segment_fault.Missing = codes "missing"
+fault_word segment_fault.Twice = codes "twice"
+fault_word segment_fault.Misnamed = codes "misnamed"
+fault_word segment_fault.Misplaced = codes "misplaced"
+fault_word segment_fault.Miscounted = codes "miscounted"
+
+-- the line for the segment with this number, which has this fault
+abbrev pub segment_line : ℕ → SegmentFault → List ℕ
+segment_line number f = line (codes "segment " ++ decimal number ++ codes " " ++ fault_word f)
+
 -- the line that is written
 abbrev pub refusal_line : Refusal → List ℕ
 refusal_line refusal.Words = line (codes "bad words")
@@ -92,6 +107,7 @@ refusal_line (refusal.FewCalls part calls) = few_calls_line part calls
 refusal_line (refusal.FewParts parts) = line (codes "the run has " ++ decimal parts ++ codes " parts")
 refusal_line refusal.Unfit = line (codes "bad script: shape")
 refusal_line (refusal.Missing k) = line (codes "missing move " ++ decimal k)
+refusal_line (refusal.BadSegment number f) = segment_line number f
 refusal_line refusal.InputFault = line (codes "input fault")
 refusal_line refusal.NoThread = line (codes "no thread")
 refusal_line refusal.Memory = memory_line
@@ -111,6 +127,7 @@ has_number (refusal.Illegal part call) = true
 has_number (refusal.FewCalls part calls) = true
 has_number (refusal.FewParts parts) = true
 has_number (refusal.Missing k) = true
+has_number (refusal.BadSegment number f) = true
 has_number _ = false
 
 -- ---- statuses
@@ -133,6 +150,7 @@ refusal_status (refusal.FewCalls part calls) = 2
 refusal_status (refusal.FewParts parts) = 2
 refusal_status refusal.Unfit = 2
 refusal_status (refusal.Missing k) = 1
+refusal_status (refusal.BadSegment number f) = 1
 refusal_status refusal.InputFault = 4
 refusal_status refusal.NoThread = 3
 refusal_status refusal.Memory = 3

@@ -1,5 +1,6 @@
 //! The program's input and output, each of which records whether a call of it failed.
 
+pub(crate) mod folder;
 pub(crate) mod input;
 pub(crate) mod line_reader;
 pub(crate) mod output;

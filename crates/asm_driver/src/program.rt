@@ -10,8 +10,10 @@ ghost use Rattle.asm_driver.specs.Run.{input_of, output_of, Runs, RunsOver, HasF
 
 mod commands;
 mod explained;
+mod foldered;
 mod grammar;
 mod refusal;
+mod segments;
 mod tracing;
 mod watching;
 mod windowing;
@@ -28,7 +30,9 @@ use crate::program::watching::{Stop, legal_line, watched};
 use crate::program::windowing::window_input;
 use crate::program::words::{Request, WordsError, read_words};
 use asm_audit::Counts;
+pub use foldered::run_folder;
 pub use grammar::{bare_program, subcommands};
+pub use segments::segment_files;
 use std::alloc::{AllocError, Global};
 use std::io;
 use std::io::{ErrorKind, Read, Write};

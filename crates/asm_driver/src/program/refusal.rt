@@ -4,6 +4,7 @@ ghost use Rattle.asm_driver.specs.Audit.{refusal_of_audit};
 ghost use Rattle.asm_driver.specs.Refusal.{refusal_line, refusal_status, has_number, cause_line as line_of_cause};
 ghost use Rattle.asm_driver.specs.Refusal.{journal_line as line_of_journal, part_line as line_of_part, line_bytes};
 ghost use Rattle.asm_driver.specs.Refusal.{few_calls_line as line_of_few_calls, journal_has_number};
+ghost use Rattle.asm_driver.specs.Refusal.{fault_word, segment_line as line_of_segment};
 ghost use Rattle.asm_driver.specs.Refusal.{journal_status as status_of_journal, refusal_of_input, refusal_of_script};
 ghost use Rattle.asm_driver.specs.Refusal.{refusal_of_run, refusal_of_journal};
 ghost use Rattle.asm_driver.specs.declared.program.refusal.Refusal.TheVariants as refusals;
@@ -44,12 +45,47 @@ pub enum Refusal {
     Unfit,
     /// The fired move with this number has no receipt.
     Missing(u32),
+    /// In a folder, the segment with this number isn't the one that was saved.
+    BadSegment { number: u64, fault: SegmentFault },
     /// A read of the input failed.
     InputFault,
     /// A thread for an agent couldn't be started.
     NoThread,
     /// Memory was refused.
     Memory,
+}
+
+/// What is wrong with a segment of a run's folder, beside a fault of its journal.
+#[derive(Clone, Copy, Debug, PartialEq, Eq)]
+pub enum SegmentFault {
+    /// Its text isn't the one that was saved.
+    Damaged,
+    /// It isn't there.
+    Missing,
+    /// Two files have its number.
+    Twice,
+    /// The name of its file isn't that of a segment.
+    Misnamed,
+    /// Its name has another FIRST or PREVIOUS than the segments before it have moves or digest.
+    Misplaced,
+    /// Its name has other MOVES or EVENTS than its text.
+    Miscounted,
+}
+
+impl SegmentFault {
+    // Return the word for the fault.
+    fn word(self) -> &'static str
+        ensures { result.now ≡ fault_word self }
+    {
+        match self {
+            SegmentFault::Damaged => "damaged",
+            SegmentFault::Missing => "missing",
+            SegmentFault::Twice => "twice",
+            SegmentFault::Misnamed => "misnamed",
+            SegmentFault::Misplaced => "misplaced",
+            SegmentFault::Miscounted => "miscounted",
+        }
+    }
 }
 
 impl From<AllocError> for Refusal {
@@ -193,6 +229,13 @@ fn few_calls_line(alloc: Global, part: u32, calls: u32) -> Result<String, AllocE
     format!(in alloc; "part {part} has {calls} calls\n")
 }
 
+fn segment_line(alloc: Global, number: u64, fault: SegmentFault) -> Result<String, AllocError>
+    ensures { IfOk result (λ l. string_bytes l ≡ line_of_segment number fault) }
+{
+    let word = fault.word();
+    format!(in alloc; "segment {number} {word}\n")
+}
+
 fn journal_status(error: JournalError) -> u8
     ensures { result ≡ status_of_journal error }
 {
@@ -230,6 +273,9 @@ impl Refusal {
             Refusal::Missing(number) => {
                 Line::Made(format!(in alloc; "missing move {number}\n")?)
             }
+            Refusal::BadSegment { number, fault } => {
+                Line::Made(segment_line(alloc, number, fault)?)
+            }
             Refusal::InputFault => Line::Known(b"input fault\n"),
             Refusal::NoThread => Line::Known(b"no thread\n"),
             Refusal::Memory => Line::Known(b"out of memory\n"),
@@ -242,6 +288,10 @@ impl Refusal {
     {
         match self {
             Refusal::Missing(_) | Refusal::Illegal { part: _, call: _ } => 1,
+            Refusal::BadSegment {
+                number: _,
+                fault: _,
+            } => 1,
             Refusal::Words
             | Refusal::TooLarge
             | Refusal::BadScript(_)

@@ -5,12 +5,14 @@ ghost use Rattle.asm_audit.specs.Fed.{IsFed};
 ghost use Rattle.std.specs.Io.KnownBytes.{Appends};
 ghost use Rattle.asm_driver.specs.Audit.{refusal_of_audit, legal_line as line_of_legal};
 ghost use Rattle.asm_driver.specs.Ports.{AppendsSome};
+ghost use Rattle.asm_driver.specs.Refusal.{refusal_of_input};
 ghost use Rattle.asm_driver.specs.Watch.{so_far_line as line_of_counts, IsDue, AddsDue, IsWatched, IsWatchAnswer};
 ghost use Rattle.asm_driver.specs.Watch.{is_unwritten, IsWrittenAnswer, IsWatchEnd};
 ghost use Rattle.asm_driver.specs.declared.program.refusal.Refusal.TheVariants as refusals;
 ghost use Rattle.asm_driver.specs.declared.program.watching.Stop.TheVariants as stops;
 
 use crate::ports::PortFailed;
+use crate::ports::input::InputError;
 use crate::ports::output::write_whole;
 use crate::ports::sink::Sink;
 use crate::ports::source::Source;
@@ -46,6 +48,22 @@ impl From<AllocError> for Stop {
 
     fn from(_refused: AllocError) -> Stop {
         Stop::Refused(Refusal::Memory)
+    }
+}
+
+impl From<InputError> for Stop {
+    ghost from_gives = { λ e s. s ≡ stops.Refused (refusal_of_input e) };
+
+    fn from(error: InputError) -> Stop {
+        Stop::Refused(Refusal::from(error))
+    }
+}
+
+impl From<Refusal> for Stop {
+    ghost from_gives = { λ r s. s ≡ stops.Refused r };
+
+    fn from(refusal: Refusal) -> Stop {
+        Stop::Refused(refusal)
     }
 }
 
@@ -91,7 +109,7 @@ fn is_due(every: u32, before: u64, calls: u64) -> bool
 }
 
 /// Append the line that is due, if one is.
-fn add_due(
+pub(crate) fn add_due(
     alloc: Global,
     every: u32,
     before: Counts,
@@ -135,7 +153,7 @@ fn take_bytes<A: Aggregator + Drop>(
 }
 
 /// Write the lines and flush them, if there are any.
-fn write_lines<K: Sink>(output: &mut K, lines: &str) -> Result<(), PortFailed>
+pub(crate) fn write_lines<K: Sink>(output: &mut K, lines: &str) -> Result<(), PortFailed>
     requires { K.failed output.old ≡ false }
     ensures same_reference { K.lender output.new ≡ K.lender output.old }
     ensures ok { OnOk result (Appends (K.contents output.old) (K.contents output.new) lines.now) }
