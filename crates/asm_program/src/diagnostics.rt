@@ -1,13 +1,12 @@
 //! What the program says on standard error.
 ghost use Rattle.std.specs.Prelude.{◌≢◌, IfOk, IsNone};
 
-use crate::folder::{audit_run, segment_files};
 use crate::hints::hint;
 use crate::input::{Opened, Recorder, RunFolder, Unreadable, open, open_segments};
 use crate::output::Output;
 use crate::words::{Invocation, NoRequest, TextKind, read_words};
 use crate::wrong::wrong_answer;
-use asm_driver::{run_given, run_main, shown_text};
+use asm_driver::{run_folder, run_given, run_main, segment_files, shown_text};
 use asm_explain::{Form, explain, explain_journal};
 use std::alloc::{AllocError, Global};
 use std::io;
@@ -201,6 +200,12 @@ fn segment_reason(line: &[u8]) -> Option<&'static str> {
     None
 }
 
+// Return whether the line says that a run is refused.
+fn is_refusal(line: &[u8]) -> bool {
+    const OTHERS: [&[u8]; 3] = [b"legal ", b"so far ", b"out of memory\n"];
+    !line.is_empty() && !OTHERS.iter().any(|other| line.starts_with(*other))
+}
+
 // Write why the audit of a folder ended so: where it was, and what is wrong there.
 fn print_folder_reason<R: Eprint>(rt: &R, alloc: Global, name: &str, file: &str, line: &[u8]) {
     if file.is_empty() {
@@ -209,7 +214,7 @@ fn print_folder_reason<R: Eprint>(rt: &R, alloc: Global, name: &str, file: &str,
     let Ok(file) = shown_text(alloc, file) else {
         return;
     };
-    let reason = if line.is_empty() {
+    let reason = if line.is_empty() || line == b"input fault\n".as_slice() {
         "can't be read"
     } else if line == b"input too large\n".as_slice() {
         LONG_LINE
@@ -225,18 +230,21 @@ fn print_folder_reason<R: Eprint>(rt: &R, alloc: Global, name: &str, file: &str,
 fn audit_folder<R: Runtime + AllocGlobal + Threads + Wait + Sync>(
     rt: &R,
     alloc: Global,
-    every: u32,
+    words: &[String],
     name: &str,
     folder: RunFolder<'_, R>,
     names: &[String],
 ) -> u8 {
     let mut folder = folder;
-    let ended = audit_run(rt, alloc, every, names, &mut folder, &mut io::writer(rt));
-    if folder.has_failed || !ended.line.is_empty() {
-        let line = ended.line.as_bytes();
+    // None of its files has been opened yet.
+    folder.has_failed = false;
+    let mut output = Output::new(alloc, io::writer(rt), false);
+    let status = run_folder(rt, alloc, words, names, &mut folder, &mut output);
+    let line = output.last.as_slice();
+    if folder.has_failed || is_refusal(line) {
         print_folder_reason(rt, alloc, name, folder.name.as_str(), line);
     }
-    ended.status
+    status
 }
 
 // Say why a folder isn't read.
@@ -278,8 +286,8 @@ fn run_on_folder<R: Runtime + AllocGlobal + Threads + Wait + Sync>(
     names: Vec<String>,
 ) -> Result<u8, NoRequest> {
     if invocation.command == "audit" {
-        let every = invocation.every;
-        return Ok(audit_folder(rt, alloc, every, name, folder, names.as_slice()));
+        let words = words.as_slice();
+        return Ok(audit_folder(rt, alloc, words, name, folder, names.as_slice()));
     }
     if invocation.is_window {
         match open_segments(alloc, folder, names.as_slice()) {

@@ -1,8 +1,11 @@
 //! What the program reads: standard input, a file, or the segments of a run's folder.
 ghost use Rattle.std.specs.Prelude.{◌≤◌, length, vec_len, IfSome};
+ghost use Rattle.std.specs.Option.{option_and_then};
+ghost use Rattle.std.specs.Io.{ReadsAtMost};
+ghost use Rattle.std.specs.Io.KnownBytes.{ReadConsumes};
 
 use crate::diagnostics::INPUT_LIMIT;
-use crate::folder::segment_files;
+use asm_driver::{Folder, InputError, PortFailed, segment_files};
 use asm_play::aggregator::script_aggregator;
 use asm_run::RunReader;
 use std::alloc::Global;
@@ -101,8 +104,8 @@ impl<'r, R: Files> RunFolder<'r, R> {
         }
     }
 
-    /// Open the file of this name in place of the open one, and return its size.
-    pub(crate) fn open(&mut self, name: &str) -> io::Result<u64> {
+    // Open the file of this name in place of the open one, and return its size.
+    fn open_file(&mut self, name: &str) -> io::Result<u64> {
         self.file = None;
         self.name = String::from_str(self.alloc, name)?;
         let folder = self.path.as_str();
@@ -113,12 +116,49 @@ impl<'r, R: Files> RunFolder<'r, R> {
     }
 }
 
-impl<R: Files> Read for RunFolder<'_, R> {
-    fn read(&mut self, buf: &mut [u8]) -> io::Result<usize> {
-        match &mut self.file {
-            Some(file) => file.read(buf),
-            None => Ok(0),
+impl<R: Files> Folder for RunFolder<'_, R> {
+    ghost use Rattle.std.specs.Prelude.{None};
+    ghost use Rattle.std.specs.Option.{option_and_then};
+
+    // What a file holds before it is opened isn't known.
+    ghost files = { λ _ _. None };
+
+    ghost remaining = { λ s. option_and_then (λ f. R.File.remaining f) s.file };
+
+    ghost failed = { λ s. s.has_failed };
+
+    fn open(&mut self, name: &str) -> Result<u64, InputError> {
+        let opened = self.open_file(name);
+        self.has_failed = false;
+        match opened {
+            Ok(size) => Ok(size),
+            Err(error) if error.kind() == ErrorKind::OutOfMemory => Err(InputError::Memory),
+            Err(_) => {
+                self.has_failed = true;
+                Err(InputError::Fault)
+            }
         }
+    }
+
+    fn read(&mut self, buffer: &mut [u8]) -> Result<usize, PortFailed> {
+        let read = read_file(&mut self.file, buffer);
+        self.has_failed = read.is_err();
+        match read {
+            Ok(count) => Ok(count),
+            Err(_) => Err(PortFailed),
+        }
+    }
+}
+
+// Read from the open file. If none is open, nothing is left.
+fn read_file<F: Read>(file: &mut Option<F>, buf: &mut [u8]) -> io::Result<usize>
+    ensures bound { ReadsAtMost result buf.new }
+    ensures bytes { ReadConsumes (option_and_then (λ f. F.remaining f) file.old)
+        (option_and_then (λ f. F.remaining f) file.new) result buf.new }
+{
+    match file {
+        Some(file) => file.read(buf),
+        None => Ok(0),
     }
 }
 
@@ -133,16 +173,16 @@ pub(crate) struct Segments<'r, R: Files> {
 impl<R: Files> Read for Segments<'_, R> {
     fn read(&mut self, buf: &mut [u8]) -> io::Result<usize> {
         for _ in 0..self.names.len() {
-            let count = self.folder.read(buf)?;
+            let count = read_file(&mut self.folder.file, buf)?;
             if count > 0 {
                 return Ok(count);
             }
             let Some(name) = self.names.pop() else {
                 return Ok(0);
             };
-            let _size = self.folder.open(name.as_str())?;
+            let _size = self.folder.open_file(name.as_str())?;
         }
-        self.folder.read(buf)
+        read_file(&mut self.folder.file, buf)
     }
 }
 

@@ -3,7 +3,6 @@
 #![tactic(auto)]
 
 mod diagnostics;
-mod folder;
 mod hints;
 mod input;
 mod output;

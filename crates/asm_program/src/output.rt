@@ -18,6 +18,8 @@ pub(crate) struct Output<W> {
     pub(crate) terms: Vec<u8>,
     /// The first bytes of what was written last.
     pub(crate) last: Vec<u8>,
+    // Whether what comes next is the rest of it.
+    is_rest: bool,
 }
 
 // Return whether the line reports a term: `agent 0 step 0 block ..`.
@@ -46,11 +48,15 @@ impl<W: Write> Output<W> {
             keeps_terms,
             terms: Vec::new(alloc),
             last: Vec::new(alloc),
+            is_rest: false,
         }
     }
 
     // Retain the beginning of what is written.
     fn record_last(&mut self, bytes: &[u8]) {
+        if self.is_rest {
+            return;
+        }
         self.last.clear();
         let count = bytes.len().min(LAST_BYTES);
         let _recorded = self.last.extend_from_slice(&bytes[..count]);
@@ -61,7 +67,9 @@ impl<W: Write> Write for Output<W> {
     fn write(&mut self, bytes: &[u8]) -> io::Result<usize> {
         self.record_last(bytes);
         if !self.keeps_terms {
-            return self.output.write(bytes);
+            let count = self.output.write(bytes)?;
+            self.is_rest = count < bytes.len();
+            return Ok(count);
         }
         let left = match self.report {
             Some(left) => left,

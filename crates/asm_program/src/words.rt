@@ -28,8 +28,6 @@ pub(crate) struct Invocation<'a> {
     pub(crate) has_terms: bool,
     /// Whether the calls of a window are asked for.
     pub(crate) is_window: bool,
-    /// After how many calls an audit writes its progress; 0 if it writes none.
-    pub(crate) every: u32,
     /// The file that is read.
     pub(crate) file: Option<&'a str>,
 }
@@ -204,7 +202,6 @@ fn invocation_of<'a>(
         is_window: ["part", "from", "to"]
             .iter()
             .any(|name| options.get_str(*name).is_some()),
-        every: options.get_one::<u32>("every").unwrap_or(0),
         file: options.get_str("file"),
     })
 }
