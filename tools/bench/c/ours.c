@@ -10,7 +10,6 @@ typedef struct agent {
     /* A slot on a separate line of the processor's cache. */
     _Alignas(128) struct asm_agent handle;
     struct asm_step step, idle;
-    struct asm_move move;
     struct asm_location at[LOCATIONS];
 } agent;
 
@@ -108,10 +107,8 @@ static bool plain_step(unsigned thread, unsigned location) {
     asm_numbers numbers;
     REQUIRE(asm_begin(&a->handle, &a->step, &number) == ASM_DONE);
     REQUIRE(asm_get_at(&a->handle, &a->step, at, &value, NULL, 0, &length) == ASM_DONE);
-    REQUIRE(asm_instruct(&a->move, at, ASM_PUT, ASM_KIND_NUM, value.number + 1, NULL, 0, 0) ==
-            ASM_DONE);
-    REQUIRE(asm_push_move(&a->handle, &a->step, &a->move, NULL, 0, &length) == ASM_DONE);
-    asm_free_move(&a->move);
+    REQUIRE(asm_push_at(&a->handle, &a->step, at, ASM_PUT, ASM_KIND_NUM, value.number + 1, NULL, 0, 0,
+                        NULL, 0, &length) == ASM_DONE);
     return is_fired(asm_commit(&a->handle, &a->step, &numbers));
 }
 

@@ -46,9 +46,19 @@ static int64_t get(struct worker *it, unsigned place) {
     return value.number;
 }
 
-static void put(struct worker *it, unsigned place, int64_t value) {
-    REQUIRE(asm_instruct(&it->move, &it->at[place], ASM_PUT, ASM_KIND_NUM, value, NULL, 0, 0) ==
-            ASM_DONE);
+/* One put needs no slot for its move. */
+static void push(struct worker *it, const unsigned *places, const int64_t *values, unsigned count) {
+    size_t written;
+    if (count == 1) {
+        REQUIRE(asm_push_at(&it->agent, &it->step, &it->at[*places], ASM_PUT, ASM_KIND_NUM, *values,
+                            NULL, 0, 0, NULL, 0, &written) == ASM_DONE);
+        return;
+    }
+    for (unsigned i = 0; i < count; i++)
+        REQUIRE(asm_instruct(&it->move, &it->at[places[i]], ASM_PUT, ASM_KIND_NUM, values[i], NULL,
+                             0, 0) == ASM_DONE);
+    REQUIRE(asm_push_move(&it->agent, &it->step, &it->move, NULL, 0, &written) == ASM_DONE);
+    asm_free_move(&it->move);
 }
 
 void peer_step(unsigned thread, const unsigned *places, unsigned reads, unsigned writes,
@@ -57,16 +67,14 @@ void peer_step(unsigned thread, const unsigned *places, unsigned reads, unsigned
     int64_t values[PLACES];
     asm_numbers numbers;
     uint32_t number;
-    size_t written;
     int32_t code;
     do {
         REQUIRE(asm_begin(&it->agent, &it->step, &number) == ASM_DONE);
         for (unsigned i = 0; i < reads; i++)
             values[i] = get(it, places[i]);
         for (unsigned i = 0; i < writes; i++)
-            put(it, places[i], values[i] + more[i]);
-        REQUIRE(asm_push_move(&it->agent, &it->step, &it->move, NULL, 0, &written) == ASM_DONE);
-        asm_free_move(&it->move);
+            values[i] += more[i];
+        push(it, places, values, writes);
         code = asm_commit(&it->agent, &it->step, &numbers);
     } while (code == ASM_STALE || code == ASM_BUSY);
     REQUIRE(code == ASM_DONE);
