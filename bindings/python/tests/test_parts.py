@@ -12,7 +12,7 @@ from unittest import mock
 
 import own
 from folugben import BrokenError, ClashError, Error, Move, PastError, ConflictError, Run, StaleError
-from folugben import _folder, audit, check, interleave, states
+from folugben import _folder, _part, _parts, audit, check, interleave, states
 from rooms import AT, BANK, COUNT, INIT, Rooms, raised, text_of, transfer, until
 from threads import in_threads
 
@@ -50,6 +50,9 @@ class Parts(Rooms):
         self.assertEqual(audit(self.path), (19, 19, 20))
 
     def test_a_step_that_has_begun_sees_its_state_and_fires_no_more(self):
+        # A slow machine ends no step.
+        for module in _part, _parts:
+            self.enterContext(mock.patch.object(module, "PATIENCE", 60))
         with Run(self.path, INIT, 5) as run, run.agent(0) as slow, run.agent(1) as quick:
             with slow.step() as step:
                 for _ in range(12):

@@ -47,13 +47,14 @@ class Ends(Rooms):
                 until(lambda: run.parts > 5)
                 run.close()
                 return
-            with run.agent(own) as agent:
-                try:
+            # The run may be closed before it gives the agent.
+            try:
+                with run.agent(own) as agent:
                     while True:
                         last[own] = agent.play(raised)[0]
-                except Error as error:
-                    self.assertEqual(type(error), Error)
-                    self.assertIn("the run was closed", str(error))
+            except Error as error:
+                self.assertEqual(type(error), Error)
+                self.assertIn("the run was closed", str(error))
 
         last = [0] * 5
         with Run(self.path, INIT, 20) as run:
