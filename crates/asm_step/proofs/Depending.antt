@@ -1,5 +1,5 @@
--- Where outcomes rest on what is below and build on it, and what a put comes to alone.
-use Rattle.std.proofs.Common.{◌≡◌, ◌↔◌, Bool, true, false, cond, ◌&&◌, ◌||◌, T, List, [], ◌∷◌, map, filter, Contains, ⊎_elim, Option, Some, None, is_some, refl, sym, ap, subst, ◌∙◌, arith, Result}
+-- Where outcomes rest on what is below and build on it, and what a layer has.
+use Rattle.std.proofs.Common.{◌≡◌, ◌↔◌, Bool, true, false, cond, ◌&&◌, ◌||◌, T, List, [], ◌∷◌, length, map, filter, Contains, ⊎_elim, Option, Some, None, is_some, refl, sym, ap, subst, ◌∙◌, arith, Result}
 use Rattle.std.proofs.lemmas.Bool.{false≢true}
 use Rattle.std.proofs.lemmas.List.Elements.{Contains-append_left, Contains-append_right, Contains-append_cases, Contains-push_cases}
 use Rattle.std.specs.FinMap.Entries.{below_all}
@@ -10,20 +10,18 @@ use Rattle.std.specs.Ordering.{eq_by_cmp, is_lt}
 use Rattle.std.specs.declared.cmp.Ordering.TheVariants.{Less}
 use Rattle.asm_element.specs.Ascending.{both_T, first_gone, is_less, rising_rest}
 use Rattle.asm_element.specs.Place.{Place, location_cmp, location_cmp_total, same_location}
-use Rattle.asm_element.specs.Tests.{itself, flipped}
+use Rattle.asm_element.specs.Tests.{itself}
 use Rattle.asm_element.specs.declared.value.Value.{Value}
 use Rattle.asm_update.specs.Action.{is_regular}
 use Rattle.asm_update.specs.Move.{Move, actions_at, writes}
 use Rattle.asm_update.specs.State.{Updates}
 use Rattle.asm_update.specs.declared.action.Instruction.{Instruction}
 use Rattle.asm_step.specs.Next.{AreNext, builds_next, next_at, depends_next}
-use Rattle.asm_step.specs.Outcomes.{Outcome, Outcomes, builds_at, stacked, dependencies_in, depends_at, sees_at, own_of, put_alone, put_outcome}
+use Rattle.asm_step.specs.Outcomes.{Outcome, Outcomes, builds_at, stacked, dependencies_in, depends_at, sees_at, own_of, puts_on}
 use Rattle.asm_step.specs.Dependencies.{puts, AreThose}
 use Rattle.asm_step.proofs.Stacked.{get-stacked, dependencies_from}
-use Rattle.std.specs.Prelude.{IfOk, OnErr}
+use Rattle.std.specs.Prelude.{IfOk, IsTrue, OnErr}
 use Rattle.std.specs.declared.alloc.AllocError.{AllocError}
-use Rattle.asm_aggregate.specs.OnlyPut.{only_put}
-use Rattle.asm_element.proofs.Ordered.{no_entries}
 use Rattle.asm_update.specs.Aggregator.{Meaning}
 use Rattle.asm_update.specs.declared.action.Action.{Action}
 use Rattle.asm_step.specs.Front.{IsExtendedInPlaceAt}
@@ -199,70 +197,27 @@ module _ (os own : Outcomes) (U : Updates) (C M : Move) (next : AreNext os U C M
         by_update (Some v) e = (λ i. cond ((sym (ap is_some e) ∙ has l) i) (builds_at os l) (depends_at os l))
         by_update None e = (λ i. cond ((sym (ap is_some e) ∙ has l) i) (builds_at os l) (depends_at os l))
 
--- a layer of a move of one put, and another one
-pub as_put : (M : Move) (each own : Outcomes) (p : Place × Value) → own_of M each ≡ own → only_put M ≡ Some p → own ≡ put_alone p
-as_put M each own p is put = sym is ∙ ap (λ o. option_map_or put_alone o each) put
+-- what a layer has that holds no puts, and one that does
+pub as_each : (M : Move) (each own : Outcomes) → own_of M each ≡ own → length M ≡ 0 → each ≡ own
+as_each [] each own is none = is
+as_each (i ∷ M) each own is none = absurd (omega (arith, none))
 
-pub as_each : (M : Move) (each own : Outcomes) → own_of M each ≡ own → only_put M ≡ None → each ≡ own
-as_each M each own is none = sym (ap (λ o. option_map_or put_alone o each) none) ∙ is
+pub as_puts : (M : Move) (each own : Outcomes) → own_of M each ≡ own → (length M ≡ 0 → ⊥) → puts_on finite.empty M ≡ own
+as_puts [] each own is some = absurd (some refl)
+as_puts (i ∷ M) each own is some = is
 
-abbrev nothing : Outcomes
-nothing = finite.empty
+-- the same by a test of whether there are puts
+pub as_each_by : (M : Move) (each own : Outcomes) (b : Bool) → own_of M each ≡ own → IsTrue b ↔ (length M ≡ 0) → b ≡ true → each ≡ own
+as_each_by M each own b is empty true_b = as_each M each own is (empty.0 true_b)
 
-pub get-put : (k l : Place) (v : Value) →
-    finite.get (put_alone (k, v)) l ≡ cond (eq_by_cmp location_cmp k l) (Some (put_outcome v)) None
-get-put k l v =
-    finite.get-insert location_cmp_total nothing k (put_outcome v) l
-    ∙ ap (λ b. cond b (Some (put_outcome v)) (finite.get nothing l)) (flipped location_cmp_total l k)
-    ∙ ap (cond (eq_by_cmp location_cmp k l) (Some (put_outcome v))) (finite.get-empty location_cmp l)
+pub as_puts_by : (M : Move) (each own : Outcomes) (b : Bool) (N : Move) → own_of M each ≡ own → IsTrue b ↔ (length M ≡ 0) → b ≡ false →
+    N ≡ M → puts_on finite.empty N ≡ own
+as_puts_by M each own b N is empty false_b same =
+    ap (puts_on finite.empty) same ∙ as_puts M each own is (λ none. false≢true (sym false_b ∙ empty.1 none))
 
-pub entries-put : (k : Place) (v : Value) → finite.entries (put_alone (k, v)) ≡ (k, put_outcome v) ∷ []
-entries-put k v =
-    finite.entries-insert location_cmp_total nothing k (put_outcome v)
-    ∙ ap (finite.put location_cmp k (put_outcome v))
-    (no_entries _ (sym (finite.len-entries nothing) ∙ finite.len-empty location_cmp Outcome))
-
-module _ (M : Move) (each own : Outcomes) (k : Place) (v : Value) (is : own_of M each ≡ own) (put : only_put M ≡ Some (k, v)) where
-  pub put_there : (l : Place) (o : Outcome) → eq_by_cmp location_cmp k l ≡ true → o ≡ put_outcome v → Some o ≡ finite.get own l
-  put_there l o same value =
-      ap Some value
-      ∙ sym (ap (λ (os : Outcomes). finite.get os l) (as_put M each own (k, v) is put) ∙ get-put k l v
-      ∙ ap (λ b. cond b (Some (put_outcome v)) None) same)
-
-  pub put_elsewhere : (l : Place) → eq_by_cmp location_cmp k l ≡ false → None ≡ finite.get own l
-  put_elsewhere l other =
-      sym (ap (λ (os : Outcomes). finite.get os l) (as_put M each own (k, v) is put) ∙ get-put k l v
-      ∙ ap (λ b. cond b (Some (put_outcome v)) None) other)
-
-  -- it comes in above others
-  pub put_above : (all new : Outcomes) (o : Outcome) → new ≡ finite.insert all k o → o ≡ put_outcome v → (l : Place) →
-      finite.get new l ≡ option_or (finite.get own l) (finite.get all l)
-  put_above all new o put_in value l =
-      ap (λ (os : Outcomes). finite.get os l) put_in ∙ finite.get-insert location_cmp_total all k o l
-      ∙ (λ i. cond (flipped location_cmp_total l k i) (Some (value i)) (finite.get all l))
-      ∙ by_test (eq_by_cmp location_cmp k l)
-      ∙ sym (ap (λ (os : Outcomes). option_or (finite.get os l) (finite.get all l)) (as_put M each own (k, v) is put)
-      ∙ ap (λ (x : Option Outcome). option_or x (finite.get all l)) (get-put k l v)) where
-        by_test : (b : Bool) → cond b (Some (put_outcome v)) (finite.get all l)
-            ≡ option_or (cond b (Some (put_outcome v)) None) (finite.get all l)
-        by_test true = refl
-        by_test false = refl
-
-  pub put_entries : finite.entries own ≡ (k, put_outcome v) ∷ []
-  put_entries = ap (λ (os : Outcomes). finite.entries os) (as_put M each own (k, v) is put) ∙ entries-put k v
-
-  pub put_depends : dependencies_in own ≡ []
-  put_depends = depends_nowhere own (λ l.
-      ap (λ (os : Outcomes). option_map_or (λ (o : Outcome). o.depends) (finite.get os l) false) (as_put M each own (k, v) is put)
-      ∙ ap (λ (x : Option Outcome). option_map_or (λ (o : Outcome). o.depends) x false) (get-put k l v)
-      ∙ by_test (eq_by_cmp location_cmp k l)) where
-        by_test : (b : Bool) → option_map_or (λ (o : Outcome). o.depends) (cond b (Some (put_outcome v)) None) false ≡ false
-        by_test true = refl
-        by_test false = refl
-
--- outcomes that go on where there is no such move
+-- outcomes that go on where no puts are held
 each_gone_on : (a : Meaning) (r : Result (Option Growth) AllocError) (M : Move) (each more own : Outcomes) (l : Place) (x : Action) →
-    own_of M each ≡ own → only_put M ≡ None → IfOk r (IsExtendedInPlaceAt a l x each more) → OnErr r (more ≡ each) →
+    own_of M each ≡ own → length M ≡ 0 → IfOk r (IsExtendedInPlaceAt a l x each more) → OnErr r (more ≡ each) →
     IfOk r (IsExtendedInPlaceAt a l x own (own_of M more)) × OnErr r (own_of M more ≡ own)
 each_gone_on a r M each more own l x is none gone same =
     let old : each ≡ own = as_each M each own is none in
@@ -273,10 +228,10 @@ each_gone_on a r M each more own l x is none gone same =
     )
 
 pub each_gone_on_ok : (a : Meaning) (r : Result (Option Growth) AllocError) (M : Move) (each more own : Outcomes) (l : Place) (x : Action) →
-    own_of M each ≡ own → only_put M ≡ None → IfOk r (IsExtendedInPlaceAt a l x each more) → OnErr r (more ≡ each) →
+    own_of M each ≡ own → length M ≡ 0 → IfOk r (IsExtendedInPlaceAt a l x each more) → OnErr r (more ≡ each) →
     IfOk r (IsExtendedInPlaceAt a l x own (own_of M more))
 each_gone_on_ok a r M each more own l x is none gone same = (each_gone_on a r M each more own l x is none gone same).0
 
 pub each_gone_on_err : (a : Meaning) (r : Result (Option Growth) AllocError) (M : Move) (each more own : Outcomes) (l : Place) (x : Action) →
-    own_of M each ≡ own → only_put M ≡ None → IfOk r (IsExtendedInPlaceAt a l x each more) → OnErr r (more ≡ each) → OnErr r (own_of M more ≡ own)
+    own_of M each ≡ own → length M ≡ 0 → IfOk r (IsExtendedInPlaceAt a l x each more) → OnErr r (more ≡ each) → OnErr r (own_of M more ≡ own)
 each_gone_on_err a r M each more own l x is none gone same = (each_gone_on a r M each more own l x is none gone same).1

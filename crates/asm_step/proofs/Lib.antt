@@ -12,12 +12,16 @@ pub mod Insertions
 pub mod Joined
 pub mod Stacked
 pub mod Layered
+pub mod FirstLayers
 pub mod Nexts
+pub mod OneChange
 pub mod OneMove
 pub mod Placed
 pub mod Prefixes
 pub mod Pushed
 pub mod Depending
+pub mod HeldPuts
+pub mod ScannedPuts
 pub mod SetLists
 pub mod Standing
 pub mod AsOne

@@ -35,6 +35,15 @@ IsFrame part old M (Err Many) = ⊥
 IsFrame part old M (Err Deep) = ⊥
 IsFrame part old M (Err Memory) = Unit {0}
 
+-- the answer is what a partial update gives on the old value, or the clash at its location
+abbrev pub IsChangeOn : Part → Value → Instruction → Result Value StepError → Type 0
+IsChangeOn part old i (Ok v) = part old None (i.action ∷ []) ≡ Ok v
+IsChangeOn part old i (Err (Clash clash)) = (clash.at ≡ i.at) × (part old None (i.action ∷ []) ≡ Err clash.cause)
+IsChangeOn part old i (Err (Large l)) = ⊥
+IsChangeOn part old i (Err Many) = ⊥
+IsChangeOn part old i (Err Deep) = ⊥
+IsChangeOn part old i (Err Memory) = Unit {0}
+
 -- there is an earlier move, and no well-formed state lets it and then the next fire
 abbrev pub NeverFollows : Part → Option Move → Move → Type 0
 NeverFollows part None M = ⊥

@@ -1,17 +1,19 @@
 -- What moves come to at the locations that they write.
-use Rattle.std.specs.Prelude.{◌≡◌, Bool, true, false, List, [], ◌∷◌, ◌++◌, map, filter, Option, refl}
+use Rattle.std.specs.Prelude.{◌≡◌, ◌≢◌, ◌&&◌, not, Bool, true, false, List, [], ◌∷◌, ◌++◌, map, filter, Option, None, refl, if◌then◌else◌}
 use Rattle.std.specs.Coded.{Coded, code_by, coded×, coded_bool, coded_list}
 use Rattle.std.specs.FinMap as finite
 use Rattle.std.specs.List.{flat_map}
-use Rattle.std.specs.Option.{option_map_or}
+use Rattle.std.specs.Option.{option_map, option_map_or}
+use Rattle.std.specs.Ordering.{eq_by_cmp}
 use Rattle.asm_element.specs.Place.{Place, location_cmp}
 use Rattle.asm_element.specs.declared.value.Value.{Value}
-use Rattle.asm_update.specs.Move.{Move}
+use Rattle.asm_update.specs.Action.{regular_value}
+use Rattle.asm_update.specs.Move.{Move, all_regular, writes}
 use Rattle.asm_update.specs.State.{Updates}
 use Rattle.asm_update.specs.declared.action.Action.{Action}
 use Rattle.asm_update.specs.declared.action.Action.TheVariants.{Regular}
+use Rattle.asm_update.specs.declared.action.Instruction.{Instruction}
 use Rattle.asm_aggregate.specs.Compose.{placed}
-use Rattle.asm_aggregate.specs.OnlyPut.{only_put}
 
 -- what moves come to at a location that one of them writes: the value that they leave, the actions that do there what
 -- they do in turn, whether they build on the value below (the first of them that writes there has partial updates
@@ -66,13 +68,37 @@ dependencies_in os = map (λ e. e.0) (filter (λ e. e.1.depends) (finite.entries
 abbrev pub put_outcome : Value → Outcome
 put_outcome v = record { value = v; actions = Regular v ∷ []; builds = false; depends = false }
 
--- what a put at a location comes to, alone
-abbrev pub put_alone : Place × Value → Outcomes
-put_alone p = finite.insert finite.empty p.0 (put_outcome p.1)
+-- the outcome of an instruction that is a put comes in at its location, in place of the one before
+abbrev pub put_on : Outcomes → Instruction → Outcomes
+put_on os i = option_map_or (λ v. finite.insert os i.at (put_outcome v)) (regular_value i.action) os
 
--- what a layer has: what the move comes to that is one put, or else these outcomes
+-- those of the puts of a move come in, one after the other
+abbrev pub puts_on : Outcomes → Move → Outcomes
+puts_on os [] = os
+puts_on os (i ∷ M) = puts_on (put_on os i) M
+
+-- what an instruction comes to at a location, if it is a put there
+abbrev pub held_by : Instruction → Place → Option Outcome
+held_by i l = if eq_by_cmp location_cmp i.at l then option_map put_outcome (regular_value i.action) else None
+
+-- whether no instruction is at the location of an earlier one
+abbrev pub are_apart : Move → Bool
+are_apart [] = true
+are_apart (i ∷ M) = not (writes M i.at) && are_apart M
+
+-- the move has puts at different locations, at least one, and nothing else
+abbrev pub ArePuts : Move → Type 0
+ArePuts M = (M ≢ []) × (all_regular M ≡ true) × (are_apart M ≡ true)
+
+-- what a layer has: what the puts come to that it holds, or without them these outcomes
 abbrev pub own_of : Move → Outcomes → Outcomes
-own_of M each = option_map_or put_alone (only_put M) each
+own_of [] each = each
+own_of (i ∷ M) each = puts_on finite.empty (i ∷ M)
+
+-- what a partial update comes to, alone and where it leaves this value
+abbrev pub change_alone : Instruction → Value → Outcomes
+change_alone i v =
+    finite.insert finite.empty i.at (record { value = v; actions = i.action ∷ []; builds = true; depends = false })
 
 -- one more action at a location, if that has an outcome
 abbrev pub with_action : Place → Action → Outcomes → Outcomes

@@ -12,9 +12,10 @@ ghost use Rattle.asm_step.specs.InTurn.{all_but_last};
 ghost use Rattle.asm_step.specs.Layers.{Layer, IsSound, alone_in, behind, stacked_on, moves_of, outcomes_of, top_of};
 ghost use Rattle.asm_step.specs.Next.{AreWhere, IsNext, IsOver, AreFilled, AreMarked, AreOpened, IsLayerFrom, count_of, is_first, on_top, opened_at, those};
 ghost use Rattle.asm_step.specs.Next.{IsStepExtendedInPlace, IsExtensionAnswer};
-ghost use Rattle.asm_step.specs.Outcomes.{acts_at, actions_in, listed, own_of, with_put};
+ghost use Rattle.asm_step.specs.Outcomes.{acts_at, actions_in, listed, with_put};
 
 use crate::error::StepError;
+use crate::firsts::{change_layer, only_change, puts_layer, value_on};
 use crate::front::one_if;
 use crate::in_place::InPlace;
 use crate::layer::{OwnLayer, frame_on, move_after};
@@ -22,8 +23,8 @@ use crate::listing::{push_within, within_limit};
 use crate::outcomes::{Outcome, Outcomes};
 use crate::own::Own;
 use crate::popped::Popped;
+use crate::puts::are_puts;
 use crate::step::Step;
-use asm_aggregate::only_put;
 use asm_element::{Location, Value};
 use asm_update::{Aggregator, INSTRUCTIONS_LIMIT, Instruction, Instructions, Lookup, UpdateSet};
 use std::alloc::{AllocError, Global};
@@ -60,19 +61,6 @@ fn mark_each(outcomes: &mut Outcomes, instructions: &Instructions)
     for instruction in instructions.as_slice() {
         mark(outcomes, instruction);
     }
-}
-
-// The layer of a move of one put.
-fn put_layer(alloc: Global, put: &Instructions) -> Result<OwnLayer, AllocError>
-    ensures { IfOk result (λ y. y
-        ≡ record { own = own_of put.now finite.empty; moves = put.now ∷ []; is_alone = true; count = 1 }) }
-{
-    Ok(OwnLayer {
-        own: Own::of_put(alloc, put.copy(alloc)?),
-        moves: Popped::of(alloc, put.copy(alloc)?),
-        is_alone: true,
-        count: 1,
-    })
 }
 
 impl Step {
@@ -271,7 +259,8 @@ impl Step {
         })
     }
 
-    // The layer of a first move. One put is its own outcome, over any look-up below it.
+    // The layer of a first move. Puts at different locations are their own outcomes, over any look-up below them, and one
+    // partial update needs no update set.
     fn first_layer<A: Aggregator, L: Lookup>(
         &self,
         alloc: Global,
@@ -286,8 +275,12 @@ impl Step {
         // Proof: the invariant is known once a field is read.
         let _ = &self.layers;
         within_limit(instructions);
-        if let Some(_) = only_put(instructions) {
-            return Ok(put_layer(alloc, instructions)?);
+        if are_puts(instructions) {
+            return Ok(puts_layer(alloc, instructions)?);
+        }
+        if let Some(one) = only_change(instructions) {
+            let value = value_on(alloc, aggregator, below, one)?;
+            return Ok(change_layer(alloc, instructions, one, value)?);
         }
         let updates = frame_on(alloc, aggregator, &self.over(below), instructions)?;
         let none = Instructions::new(alloc);

@@ -5,26 +5,26 @@ ghost use Rattle.std.specs.Option.{option_or};
 ghost use Rattle.std.specs.FinMap as map;
 ghost use Rattle.asm_element.specs.Place.{Place};
 ghost use Rattle.asm_step.specs.Front.{IsExtendedInPlaceAt};
-ghost use Rattle.asm_step.specs.Outcomes.{own_of, put_alone, dependencies_in};
+ghost use Rattle.asm_step.specs.Outcomes.{own_of, dependencies_in};
 
 use crate::front::Growth;
 use crate::held::{Gathered, Held};
 use crate::in_place::InPlace;
-use crate::outcomes::{Outcome, Outcomes};
-use asm_aggregate::only_put;
-use asm_element::{Location, Value};
+use crate::outcomes::Outcomes;
+use crate::puts::{gather_puts, held_put, outcomes_of_puts};
+use asm_element::Location;
 use asm_update::{Action, Instructions};
 use std::alloc::{AllocError, Global};
 use std::marker::Model;
 
 /// What the moves of a layer come to, which contracts see as outcomes.
 ///
-/// If the first move is one put, it is held as it was pushed: its copy takes no memory, and most steps are of such a
-/// move.
+/// If the first move has puts at different locations alone, it is held as it was pushed: its copy takes no memory, and
+/// most steps are of such a move.
 #[derive(Drop)]
 pub(crate) struct Own {
-    /// The move, if it is one put; there are no outcomes then.
-    pub(crate) put: Instructions,
+    /// The move, if it has such puts; there are no outcomes then.
+    pub(crate) puts: Instructions,
     /// An outcome for each location, for any other moves.
     pub(crate) each: Outcomes,
 }
@@ -40,27 +40,16 @@ impl Model for Own {
 
     ghost coded = { map.code location_row.coded outcome_row.coded };
 
-    ghost view = { λ s. own_of s.put s.each };
-}
-
-// The outcome of a put, laid open.
-fn outcomes_of_put(alloc: Global, at: &Location, value: &Value) -> Result<Outcomes, AllocError>
-    ensures { IfOk result (λ each. each ≡ put_alone (at.now, value.now)) }
-{
-    let mut outcome = Outcome::new(alloc, value.copy(alloc)?, false, false);
-    outcome.add(Action::Regular(value.copy(alloc)?))?;
-    let mut each = Outcomes::new(alloc);
-    each.put(at.copy(alloc)?, outcome)?;
-    Ok(each)
+    ghost view = { λ s. own_of s.puts s.each };
 }
 
 impl Own {
-    /// Return what a move of one put comes to.
-    pub(crate) fn of_put(alloc: Global, put: Instructions) -> Own
-        ensures { result ≡ own_of put map.empty }
+    /// Return what a move of puts at different locations comes to.
+    pub(crate) fn of_puts(alloc: Global, puts: Instructions) -> Own
+        ensures { result ≡ own_of puts map.empty }
     {
         Own {
-            put,
+            puts,
             each: Outcomes::new(alloc),
         }
     }
@@ -69,7 +58,7 @@ impl Own {
         ensures { result ≡ each }
     {
         Own {
-            put: Instructions::new(alloc),
+            puts: Instructions::new(alloc),
             each,
         }
     }
@@ -77,32 +66,30 @@ impl Own {
     pub(crate) fn get(&self, at: &Location) -> Option<Held<'_>>
         ensures { result ≡ map.get self.now at.now }
     {
-        match only_put(&self.put) {
-            Some((put_at, value)) if put_at == at => Some(Held::of_put(value)),
-            Some(_) => None,
-            None => self.each.held(at),
+        if self.puts.is_empty() {
+            return self.each.held(at);
         }
+        held_put(self.puts.as_slice(), at)
     }
 
     /// Return whether one of the outcomes depends on what is below.
-    #[tactic(auto, using(crate::proofs::Depending::put_depends))]
     pub(crate) fn depends_somewhere(&self) -> bool
         ensures { OnFalse result (dependencies_in self.now ≡ []) }
     {
-        match only_put(&self.put) {
-            Some(_) => false,
-            None => self.each.depends_somewhere(),
+        if self.puts.is_empty() {
+            return self.each.depends_somewhere();
         }
+        false
     }
 
     /// Give each location what this has there.
     pub(crate) fn gather<'a>(&'a self, all: &mut Gathered<'a>) -> Result<(), AllocError>
         ensures { OnOk result ((q : Place) → map.get all.new q ≡ option_or (map.get self.now q) (map.get all.old q)) }
     {
-        match only_put(&self.put) {
-            Some((at, value)) => all.put(at, Held::of_put(value)),
-            None => all.take(&self.each),
+        if self.puts.is_empty() {
+            return all.take(&self.each);
         }
+        gather_puts(self.puts.as_slice(), all)
     }
 
     /// Add one partial update of a later move at the location, in place.
@@ -119,20 +106,20 @@ impl Own {
         ensures ok { IfOk result (IsExtendedInPlaceAt (A.meaning aggregator.now) at.now action.now self.old self.new) }
         ensures err { OnErr result (self.new ≡ self.old) }
     {
-        match only_put(&self.put) {
-            Some(_) => Ok(None),
-            None => self.each.extend_in_place(alloc, aggregator, at, action),
+        if self.puts.is_empty() {
+            return self.each.extend_in_place(alloc, aggregator, at, action);
         }
+        Ok(None)
     }
 
     // The outcomes, laid open.
     fn into_each(self, alloc: Global) -> Result<Outcomes, AllocError>
         ensures { IfOk result (λ each. each ≡ self) }
     {
-        match only_put(&self.put) {
-            Some((at, value)) => outcomes_of_put(alloc, at, value),
-            None => Ok(self.each),
+        if self.puts.is_empty() {
+            return Ok(self.each);
         }
+        outcomes_of_puts(alloc, self.puts.as_slice())
     }
 
     /// Give each location of those above what these have there.
@@ -143,10 +130,10 @@ impl Own {
         ensures err { OnErr result (self.new ≡ self.old) }
     {
         let above = above.into_each(alloc)?;
-        let Some((at, value)) = only_put(&self.put) else {
+        if self.puts.is_empty() {
             return self.each.take_in(alloc, above);
-        };
-        let mut each = outcomes_of_put(alloc, at, value)?;
+        }
+        let mut each = outcomes_of_puts(alloc, self.puts.as_slice())?;
         each.take_in(alloc, above)?;
         *self = Own::of_each(alloc, each);
         Ok(())

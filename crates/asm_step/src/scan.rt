@@ -4,15 +4,16 @@ ghost use Rattle.std.specs.Cmp.Lexicographic.{pointwise};
 ghost use Rattle.asm_element.specs.Place.{Place};
 ghost use Rattle.asm_update.specs.State.{val, write};
 ghost use Rattle.asm_step.specs.Layers.{frames_of};
-ghost use Rattle.asm_step.specs.Outcomes.{frame};
+ghost use Rattle.asm_step.specs.Outcomes.{frame, put_on, puts_on};
+ghost use Rattle.std.specs.FinMap as map;
 ghost use Rattle.asm_step.specs.Layers.{scanned};
 
 use crate::outcomes::Outcomes;
 use crate::own::Own;
+use crate::puts::value_put;
 use crate::step::Step;
-use asm_aggregate::only_put;
 use asm_element::{Location, Value};
-use asm_update::PlainState;
+use asm_update::{Instruction, PlainState};
 use std::alloc::{AllocError, Global};
 
 // Gives the location a copy of the value, if it has the name; undef takes it out.
@@ -49,6 +50,38 @@ fn put_each(
     Ok(())
 }
 
+// Writes the value of the instruction, if it is a put at a location with the name.
+fn put_one(
+    alloc: Global,
+    plain: &mut PlainState,
+    name: &str,
+    put: &Instruction,
+) -> Result<(), AllocError>
+    ensures { OnOk result ((l : Place) →
+        val plain.new l ≡ scanned (frame (put_on map.empty put.now) ∷ []) (val plain.old) name.now l) }
+{
+    match value_put(put) {
+        Some(value) => put_named(alloc, plain, name, &put.at, value),
+        None => Ok(()),
+    }
+}
+
+// Writes the values of the puts at the locations with the name.
+fn put_puts(
+    alloc: Global,
+    plain: &mut PlainState,
+    name: &str,
+    puts: &[Instruction],
+) -> Result<(), AllocError>
+    ensures { OnOk result ((l : Place) →
+        val plain.new l ≡ scanned (frame (puts_on map.empty puts.now) ∷ []) (val plain.old) name.now l) }
+{
+    for put in puts {
+        put_one(alloc, plain, name, put)?;
+    }
+    Ok(())
+}
+
 // Writes the values of what a layer has at the locations with the name.
 fn put_values(
     alloc: Global,
@@ -59,10 +92,10 @@ fn put_values(
     ensures { OnOk result ((l : Place) →
         val plain.new l ≡ scanned (frame own.now ∷ []) (val plain.old) name.now l) }
 {
-    match only_put(&own.put) {
-        Some((at, value)) => put_named(alloc, plain, name, at, value),
-        None => put_each(alloc, plain, name, &own.each),
+    if own.puts.is_empty() {
+        return put_each(alloc, plain, name, &own.each);
     }
+    put_puts(alloc, plain, name, own.puts.as_slice())
 }
 
 impl Step {

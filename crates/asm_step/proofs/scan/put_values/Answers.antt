@@ -1,22 +1,23 @@
-use Rattle.std.proofs.Common.{◌≡◌, [], ◌∷◌, List, refl, sym}
-use Rattle.std.proofs.lemmas.Result.{on_ok_weaker}
+use Rattle.std.proofs.Common.{◌≡◌, ◌∷◌, [], subst}
+use Rattle.std.specs.Prelude.{OnOk}
 use Rattle.asm_element.specs.Place.{Place}
-use Rattle.asm_step.specs.Outcomes.{Outcome, put_outcome}
-use Rattle.asm_step.proofs.Depending.{put_entries}
-use Rattle.asm_step.proofs.Insertions.{all_in, none_in, one_in, values_in}
-use Rattle.std.specs.FinMap as finite
+use Rattle.asm_update.specs.State.{val}
+use Rattle.asm_step.specs.Layers.{scanned}
+use Rattle.asm_step.specs.Outcomes.{Outcomes, frame}
+use Rattle.asm_step.proofs.Depending.{as_each_by, as_puts_by}
 use Rattle.asm_step.proofs.scan.put_values.Goals as goal
 
-pub returns-in-Some : goal.returns-in-Some
-returns-in-Some c =
-    let name = c.args.name.now in
-    let plain = c.args.plain.now in
-    let k = c.in-Some.at.now in
-    let v = c.in-Some.value.now in
-    let es : List (Place × Outcome) = (k, put_outcome v) ∷ [] in
-    let start : es ≡ finite.entries c.args.own.now =
-    sym (put_entries c.own.inside.put c.own.inside.each c.args.own.now k v c.own.view_is c.in-Some.ensures.some) in
-    on_ok_weaker c.put_named.result
-    (λ put. all_in name c.args.own.now es [] plain c.put_named.new.plain start refl
-    (one_in name (values_in es) k v [] plain plain c.put_named.new.plain put (none_in name c.args.own.now es plain start)))
-    c.put_named.ensures
+pub returns-then-is_empty : goal.returns-then-is_empty
+returns-then-is_empty c =
+    subst (λ (os : Outcomes). OnOk c.put_each.result ((l : Place) →
+    val c.put_each.new.plain l ≡ scanned (frame os ∷ []) (val c.args.plain.now) c.args.name.now l))
+    (as_each_by c.own.inside.puts c.own.inside.each c.args.own.now c.is_empty.result c.own.view_is c.is_empty.ensures c.if-is_empty.true)
+    c.put_each.ensures
+
+pub returns : goal.returns
+returns c =
+    subst (λ (os : Outcomes). OnOk c.put_puts.result ((l : Place) →
+    val c.put_puts.new.plain l ≡ scanned (frame os ∷ []) (val c.args.plain.now) c.args.name.now l))
+    (as_puts_by c.own.inside.puts c.own.inside.each c.args.own.now c.is_empty.result c.as_slice.result.now c.own.view_is
+    c.is_empty.ensures c.if-is_empty.false c.as_slice.ensures)
+    c.put_puts.ensures

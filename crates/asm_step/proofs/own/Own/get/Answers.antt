@@ -1,13 +1,18 @@
-use Rattle.std.proofs.Common.{sym, ◌∙◌}
-use Rattle.asm_step.proofs.Depending.{put_elsewhere, put_there}
+use Rattle.std.proofs.Common.{ap, ◌∙◌}
+use Rattle.std.specs.FinMap as finite
+use Rattle.asm_step.specs.Outcomes.{Outcomes}
+use Rattle.asm_step.proofs.Depending.{as_each_by, as_puts_by}
 use Rattle.asm_step.proofs.own.Own.get.Goals as goal
 
-pub returns-in-Some : goal.returns-in-Some
-returns-in-Some c =
-    put_there c.self.inside.put c.self.inside.each c.args.self.now c.in-Some.put_at.now c.in-Some.value.now c.self.view_is
-    c.in-Some.ensures.some c.args.at.now c.of_put.result (sym c.eq.ensures ∙ c.if-eq.true) c.of_put.ensures
+pub returns-then-is_empty : goal.returns-then-is_empty
+returns-then-is_empty c =
+    c.held.ensures
+    ∙ ap (λ (os : Outcomes). finite.get os c.args.at.now)
+    (as_each_by c.self.inside.puts c.self.inside.each c.args.self.now c.is_empty.result c.self.view_is c.is_empty.ensures c.if-is_empty.true)
 
-pub returns-in-Some-2 : goal.returns-in-Some-2
-returns-in-Some-2 c =
-    put_elsewhere c.self.inside.put c.self.inside.each c.args.self.now c.in-Some.put_at.now c.in-Some.value.now c.self.view_is
-    c.in-Some.ensures.some c.args.at.now (sym c.eq.ensures ∙ c.if-eq.false)
+pub returns : goal.returns
+returns c =
+    c.held_put.ensures
+    ∙ ap (λ (os : Outcomes). finite.get os c.args.at.now)
+    (as_puts_by c.self.inside.puts c.self.inside.each c.args.self.now c.is_empty.result c.as_slice.result.now c.self.view_is
+    c.is_empty.ensures c.if-is_empty.false c.as_slice.ensures)
