@@ -8,7 +8,8 @@ import time
 import unittest
 
 import own
-from folugben import Code, Error, Location, ManyError, Move, MovedError, Storage, check
+import random_moves
+from folugben import ClashError, Code, Error, Location, ManyError, Move, MovedError, Storage, check
 from threads import in_threads
 
 COUNT = Location("count")
@@ -135,6 +136,38 @@ class Turns(unittest.TestCase):
 
 
 class UnitedMoves(unittest.TestCase):
+    def test_random_moves_do_both_at_once(self):
+        rng, seen = random.Random(5), set()
+        for _ in range(600):
+            one, two = random_moves.move(rng), random_moves.move(rng)
+
+            def gather(instructions):
+                move = Move()
+                for word, *words in instructions:
+                    getattr(move, word.replace("bag", "bag_"))(*words)
+                return move
+
+            def effect(push):
+                with Storage(random_moves.INIT) as storage, storage.agent(0) as agent, agent.step() as step:
+                    try:
+                        step.push(push)
+                    except ClashError as clash:
+                        return clash.at, clash.cause
+                    finally:
+                        seen.add(step.depth)
+                    return repr(sorted(map(repr, step.offer()["fire"])))
+
+            first, second = gather(one), gather(two)
+            both, third = first | second, gather(one)
+            self.assertIs(third.unite(second), third)
+            self.assertEqual([len(it) for it in (first, second, both, third)], [len(one), len(two), *2 * [len(one) + len(two)]])
+            wanted = effect([*one, *two])
+            self.assertEqual((effect(both), effect(third)), (wanted, wanted))
+            third = gather(one)
+            third |= second
+            self.assertEqual((effect(third), effect(first), effect(second)), (wanted, effect(one), effect(two)))
+        self.assertEqual(seen, {0, 1})
+
     def test_operators_unite(self):
         first, second, third = Move().put("x", 1), Move().inc("n", 1).add("s", 2), Move().put("x", 1)
         both = first | second

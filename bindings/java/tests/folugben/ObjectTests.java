@@ -111,6 +111,82 @@ final class ObjectTests {
         throw new IllegalStateException("a text that is cut off is read");
     }
 
+    /** The expected result of a move, as a reply: the updates, or what clashes. */
+    static Object foreseen(Map<Location, Value> state, List<Instruction> move) {
+        try {
+            return Moves.aggregate(state, move);
+        } catch (ClashException error) {
+            return List.of(error.at(), error.cause());
+        }
+    }
+
+    /** Random moves are pushed and fired as Moves expects, and the journal has them. */
+    static void moves() {
+        int fired = 0;
+        for (int round = 0; round < ROUNDS; round++) {
+            Randoms random = new Randoms(round);
+            Map<Location, Value> state = random.state();
+            try (Storage storage = Storage.open(state, 64); Agent agent = storage.agent(0)) {
+                for (int left = 8; left > 0; left--) {
+                    List<Instruction> move = random.move();
+                    Object wanted = foreseen(state, move);
+                    Agent.Reply reply = agent.tryFire(move, List.of());
+                    if (!reply.isFired()) {
+                        equal(List.of(reply.at(), reply.cause()), wanted);
+                        continue;
+                    }
+                    fired++;
+                    for (Map.Entry<?, ?> entry : ((Map<?, ?>) wanted).entrySet())
+                        state.put((Location) entry.getKey(), (Value) entry.getValue());
+                    state.values().removeIf(Value::isUndef);
+                    agent.follow();
+                    equal(agent.state().values(), state);
+                }
+                agent.give();
+                equal(Storage.replayed(storage.closeJournal()), state);
+            }
+        }
+        equal(fired > 2 * ROUNDS, true);
+    }
+
+    /** Whether the step takes both moves. */
+    static boolean takes(Step step, List<Instruction> first, List<Instruction> second) {
+        try {
+            step.push(first);
+            step.extend(second);
+            return true;
+        } catch (ClashException error) {
+            return false;
+        }
+    }
+
+    /** Two moves that are pushed in turn leave what their composed move does. */
+    static void composed() {
+        int composed = 0;
+        for (int round = 0; round < ROUNDS; round++) {
+            Randoms random = new Randoms(round);
+            Map<Location, Value> state = random.state();
+            List<Instruction> first = random.move();
+            List<Instruction> second = random.move();
+            List<Location> places =
+                    List.of(0, 1, 2, 3).stream().map(own -> Location.of("x", own)).toList();
+            try (Storage storage = Storage.open(state, 8); Agent agent = storage.agent(0);
+                    Step step = agent.step()) {
+                if (!takes(step, first, second))
+                    continue;
+                List<Value> seen = step.get(places);
+                Map<Location, Value> left = new TreeMap<>(state);
+                left.putAll(Moves.aggregate(state, Moves.compose(first, second)));
+                equal(seen, places.stream().map(place -> at(left, place)).toList());
+                equal(step.tryCommit().orThrow(), 1);
+                agent.follow();
+                equal(agent.peek(places), new Reading(1, places, seen));
+                composed++;
+            }
+        }
+        equal(composed > ROUNDS / 4, true);
+    }
+
     /** Readings name what was read. */
     static void readings() {
         try (Storage storage = Storage.open(List.of(Pair.of(X, 1)), 8);
@@ -158,6 +234,10 @@ final class ObjectTests {
         System.out.println("texts");
         noTexts();
         System.out.println("no texts");
+        moves();
+        System.out.println("moves as objects");
+        composed();
+        System.out.println("composed");
         readings();
         System.out.println("readings");
         refusals();
