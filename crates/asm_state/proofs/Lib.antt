@@ -6,6 +6,7 @@ pub mod InPlace
 mod InTree
 pub mod Judged
 pub mod LeastFound
+pub mod Listing
 pub mod Onward
 pub mod OpeningState
 pub mod Counted

@@ -1,5 +1,6 @@
 pub mod Follow
 pub mod LeastNamed
+pub mod Listed
 pub mod Limits
 pub mod Named
 pub mod Plain

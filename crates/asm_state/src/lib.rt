@@ -7,6 +7,7 @@
 mod entries;
 mod in_place;
 pub mod laws;
+mod listed;
 mod named;
 mod plain;
 mod scanned;

@@ -1,0 +1,13 @@
+use Rattle.std.proofs.Common.{◌≡◌, ◌++◌, ◌-◌, All, drop, length}
+use Rattle.asm_state.specs.Listed.{IsListed, by_value, seen_all}
+use Rattle.asm_state.proofs.listed.push_rest.Given as goal
+
+abbrev pub invariant-loop-next : goal.invariant-loop-next
+invariant-loop-next l = record {
+  list : by_value l.list.items ++ seen_all (by_value (drop l.next l.written))
+      ≡ by_value l.fn.list.items ++ seen_all (by_value (drop l.from l.written));
+  listed : All IsListed (by_value l.fn.list.items) → All IsListed (by_value l.list.items);
+}
+
+abbrev pub decreases-loop-next : goal.decreases-loop-next
+decreases-loop-next l = length l.written - l.next
