@@ -30,6 +30,6 @@ pub use front::{FromFront, read_compact};
 pub use output::write_text;
 pub use parsing::{Header, Limits, from_text, read_event, read_header};
 pub use replaying::{next_storage, replay, replay_closing, replay_over};
-pub use spelling::{ToText, values_text};
+pub use spelling::{ToText, list_text, values_text};
 pub use texts::{answer_text, move_text, state_text, updates_text, value_text};
 pub use writing::{closing_text, header_members, push_line, to_text};

@@ -17,6 +17,7 @@ mod value;
 pub use answer::values_text;
 pub(crate) use items::push_member;
 pub(crate) use scalars::push_sign;
+pub use state::list_text;
 
 /// A value whose compact JSON is written without a tree of it.
 pub trait ToText: ToJson {
