@@ -1,5 +1,6 @@
 -- What a transaction shows of the state at its version, and how it grows.
-use Rattle.std.proofs.Common.{◌≡◌, ◌≤◌, ◌∙◌, ℕ, List, [], ◌∷◌, ◌++◌, cond, length, map, unwrap_or, Bool, true, false, refl, ap, subst, sym}
+use Rattle.std.proofs.Common.{◌≡◌, ◌≤◌, ◌∙◌, ℕ, List, [], ◌∷◌, ◌++◌, cond, length, map, unwrap_or, Bool, true, false, Option, Some, None, refl, ap, arith, subst, sym}
+use Rattle.std.specs.Prelude.{IfSome}
 use Rattle.asm_element.specs.Place.{Place}
 use Rattle.asm_element.specs.declared.value.Value.{Value}
 use Rattle.asm_update.specs.Aggregator.{Meaning}
@@ -9,6 +10,7 @@ use Rattle.asm_update.specs.State.{State, val}
 use Rattle.asm_overlay.proofs.FrameLemmas.{val-under}
 use Rattle.asm_overlay.specs.Frames.{OverView, seen_through, topmost, under}
 use Rattle.asm_element.specs.Value.{undef}
+use Rattle.asm_state.specs.Listed.{IsListing}
 use Rattle.asm_state.specs.Plain.{value_of_name}
 use Rattle.asm_state.specs.Scans.{has_name}
 use Rattle.asm_state.proofs.Judged.{same_old}
@@ -18,7 +20,7 @@ use Rattle.asm_storage.specs.Storage.{AgentAt, machine_of}
 use Rattle.asm_step.proofs.Layered.{fires_all}
 use Rattle.asm_step.specs.Layers.{Layer, AreLayers, IsStepOf, frames_of, scanned}
 use Rattle.asm_transaction.specs.Reading.{IsOf, IsShown, IsUnread, IsUnseen, IsUntracked, Shows, state_at}
-use Rattle.asm_transaction.specs.Scanning.{IsScan}
+use Rattle.asm_transaction.specs.Scanning.{IsListOf, IsScan}
 use Rattle.asm_transaction.specs.View.{TransactionView, new_transaction, pushed}
 use Rattle.asm_transaction.specs.declared.error.TransactionError.{TransactionError}
 use Rattle.asm_transaction.specs.declared.error.TransactionError.TheVariants as transaction_error
@@ -140,6 +142,31 @@ is_scan {A} meaning a s t inside name below P view own same there found is =
             (state_at meaning a inside.number) is.step (λ k there. refl),
         one,
       )
+
+-- where no move is pushed, all is seen as it is below
+unpushed : (layers : List Layer) → length layers ≡ 0 → (P : State) (name : List ℕ) (l : Place) →
+    val P l ≡ scanned (frames_of layers) (val P) name l
+unpushed [] none P name l = by_test (has_name name l) where
+  by_test : (b : Bool) → val P l ≡ cond b (val P l) (val P l)
+  by_test true = refl
+  by_test false = refl
+unpushed (y ∷ layers) none P name l = absurd (omega (arith, none))
+
+pub some_weaker : {X : Type 0} (P Q : X → Type 0) → ((x : X) → P x → Q x) → (found : Option X) → IfSome found P → IfSome found Q
+some_weaker P Q gives (Some x) h = gives x h
+some_weaker P Q gives None h = tt
+
+-- the list that a scan has where no move is pushed
+pub is_scan_list : {A : Type 0} (meaning : A → Meaning) (s : StateView) (t inside : TransactionView) (name : List ℕ)
+    (list : List (Place × Value)) → inside ≡ t → s.number ≡ inside.number → length inside.layers ≡ 0 →
+    IsListing (value_of_name s name) list →
+    IsListOf (λ P. (a : AgentAt A) → IsFollowing (machine_of meaning a.storage) a.account.seen s → IsOf meaning a t → IsScan meaning a t name P) list
+is_scan_list meaning s t inside name list view same none listing = (
+  listing.0,
+  listing.1,
+  (λ a own is. is_scan meaning a s t inside name listing.0 listing.0 view own same listing.2 (unpushed inside.layers none listing.0 name) is),
+  listing.3,
+)
 
 -- why a location isn't read
 pub unread_unseen : (l : Place) (n : ℕ) (t : TransactionView) (e : TransactionError) → IsUnseen n t e → IsUnread l n t e

@@ -2,17 +2,19 @@
 //!
 //! So a caller does something else in between that may fail, such as writing into a buffer, before anything is tracked.
 //! Each call takes the agent's own state, which an agent and the part of an agent lend.
-ghost use Rattle.std.specs.Prelude.{◌≡◌, ◌≢◌, IfErr, IfOk, OnErr, OnOk};
+ghost use Rattle.std.specs.Prelude.{◌≡◌, ◌≢◌, IfErr, IfOk, IfSome, OnErr, OnOk};
 ghost use Rattle.asm_overlay.specs.Frames.{seen_through};
+ghost use Rattle.asm_state.specs.Listed.{by_value};
 ghost use Rattle.asm_state.specs.View.{value_at};
 ghost use Rattle.asm_storage.specs.Part.{IsFollowing};
 ghost use Rattle.asm_storage.specs.Storage.{AgentAt, machine_of};
 ghost use Rattle.asm_transaction.specs.Reading.{IsOf, IsUnseen, Shows};
-ghost use Rattle.asm_transaction.specs.Scanning.{HasScanned, IsScan, IsUntaken};
+ghost use Rattle.asm_transaction.specs.Scanning.{HasScanned, IsListOf, IsScan, IsUntaken};
 
 use crate::error::TransactionError;
 use crate::scanning::{note_scan, scan_for};
 use crate::transaction::Transaction;
+use asm_element::{Location, Value};
 use asm_state::State;
 use asm_step::OverStep;
 use asm_storage::READS_LIMIT;
@@ -64,6 +66,37 @@ impl Transaction {
         }
         let below = state.of_name(alloc, name)?;
         let found = self.step.scan(alloc, below, name)?;
+        Ok(found)
+    }
+
+    /// Return the locations of `see_name` that aren't undef, each with its value, in ascending order.
+    ///
+    /// It copies no value: the values are those of the state. `None` is the answer if a move is pushed, and to a text that
+    /// is no name of a function.
+    ///
+    /// # Errors
+    ///
+    /// - `Moved` if the state is at another version.
+    /// - `Memory` only if memory is refused.
+    pub fn list_name<'a, A: Aggregator>(
+        &self,
+        alloc: Global,
+        state: &'a State,
+        name: &str,
+    ) -> Result<Option<Vec<(&'a Location, &'a Value)>>, TransactionError>
+        ensures found { IfOk result (λ found. IfSome found (λ list. IsListOf (λ P. (a : AgentAt A) →
+            IsFollowing (machine_of A.meaning a.storage) a.account.seen state.now →
+            IsOf A.meaning a self.now → IsScan A.meaning a self.now name.now P) (by_value list.items))) }
+        ensures level { OnOk result (state.now.number ≡ self.now.number) }
+        ensures unseen { IfErr result (IsUnseen state.now.number self.now) }
+    {
+        if state.number() != self.number {
+            return Err(TransactionError::Moved);
+        }
+        if self.step.depth() > 0 {
+            return Ok(None);
+        }
+        let found = state.list_of_name(alloc, name)?;
         Ok(found)
     }
 
