@@ -67,8 +67,9 @@
  *    with ASM_SMALL.
  *  - ASM_MEMORY: nothing was fired or lost, and the call may be made again; asm_audit with the bytes
  *    that it didn't take.
- *  - ASM_SMALL: nothing was written to the buffer; `*written` is the room that is needed. The call
- *    may be made again: nothing is read, fired or closed by it.
+ *  - ASM_SMALL: nothing was written to the buffer; `*written` is the room that is needed, or of
+ *    asm_explain the room that any sentence fits into. The call may be made again: nothing is read,
+ *    fired or closed by it.
  *
  * TEXTS are JSON in UTF-8, in the forms of journals (docs/FORMATS.md):
  *
@@ -975,13 +976,17 @@ enum asm_form {
     ASM_FORM_SCRIPT = 4     /* {"agents":[AGENT, ..],"init":[PAIR, ..]}, which asm_driver plays */
 };
 
+/* The most bytes of a sentence of asm_explain. */
+#define ASM_SENTENCE_LIMIT 512
+
 /* Writes a sentence that says where and why a text is refused as ASM_NOT_JSON or ASM_SHAPE, such as
  * "instruction 3: a set can't hold a set", "4,097 instructions, at most 4,096" or "not JSON at byte
  * 17"; the parts, the lines and the bytes of a text are counted from 1. Of a script it says "agent
  * 1 step 0 block 0 instruction 2: unknown word \"putt\"", all counted from 0. The text is empty,
  * with `*written` 0, exactly if the form's readers accept what they are passed: nothing is said of
  * what makes ASM_MANY, nor of an event that doesn't fit the journal's first line; a script is
- * within its limits. The sentences may change with the version. ASM_NO_FORM, ASM_SMALL,
+ * within its limits. The sentences may change with the version, and are one line of at most
+ * ASM_SENTENCE_LIMIT bytes, which `*written` is with ASM_SMALL. ASM_NO_FORM, ASM_SMALL,
  * ASM_MEMORY. */
 FOLUGBEN_NODISCARD int32_t asm_explain(int32_t form, const uint8_t *text, size_t len, uint8_t *out,
     size_t room, size_t *written);

@@ -82,11 +82,20 @@ static struct asm_move *move_at(size_t word) { return &moves[number(word)]; }
 
 static struct word *text(size_t word) { return unquoted(&words[word]); }
 
+/* Leaves the sentence in `said`: of a text that is refused, the call is also made without room and with a byte too few. */
 static void explain(int32_t form, const uint8_t *refused, size_t len) {
-    if (WRITES(asm_explain(form, refused, len, OUT)) != ASM_DONE || written >= sizeof said)
+    give_room(ASM_SENTENCE_LIMIT);
+    if (asm_explain(form, refused, len, OUT) != ASM_DONE || written >= sizeof said)
         fail("asm_explain");
     memcpy(said, out, written);
     said[written] = 0;
+    needed = ASM_SENTENCE_LIMIT;
+    const size_t rooms[] = {0, written - 1};
+    for (size_t i = 0; *said && i < 2; i++) {
+        give_room(rooms[i]);
+        had_no_room(asm_explain(form, refused, len, OUT));
+    }
+    written = 0;
 }
 
 static void *slot(size_t size) {

@@ -78,6 +78,7 @@ void explains(void) {
     REQUIRE(asm_explain(form, bytes(t), strlen(t->bytes), room ? out : NULL, room, &written) ==
             wanted);
     REQUIRE((written > 0) == (wanted != ASM_NO_FORM && found != ASM_DONE));
+    REQUIRE((written == ASM_SENTENCE_LIMIT) == (wanted == ASM_SMALL));
 }
 
 /* Checks, replays and traces a journal that is cut off, or has one changed bit. */

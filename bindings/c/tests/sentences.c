@@ -1,9 +1,9 @@
 /* What each code means. The sentences that say where and why a text is refused are in bindings/conformance/journals.jsonl, but
- * for the one on nesting, for which packages have their own words. */
+ * for the longest ones, and for the one on nesting, for which packages have their own words. */
 #include "tests.h"
 
-/* The call writes this text; with a byte of room less, and without room, it writes nothing and returns the length. */
-#define SAYS(wanted, call)                                                                         \
+/* The call writes this text; with a byte of room less, and without room, it writes nothing and asks for this room. */
+#define SAYS(wanted, asked, call)                                                                  \
     do {                                                                                           \
         size_t length = strlen(wanted), room = length, written = 9;                                \
         uint8_t *out = buffer_of(room);                                                            \
@@ -13,10 +13,13 @@
         for (int without = 0; length && without < 2; without++) {                                  \
             out = buffer_of(room = without ? 0 : length - 1);                                      \
             written = 9;                                                                           \
-            REQUIRE((call) == ASM_SMALL && written == length && is_untouched(out, room));          \
+            REQUIRE((call) == ASM_SMALL && written == (asked) && is_untouched(out, room));         \
             free(out);                                                                             \
         }                                                                                          \
     } while (0)
+
+/* This is the explanation of a text of the form. */
+#define EXPLAINS(wanted, form, text) SAYS(wanted, ASM_SENTENCE_LIMIT, asm_explain(form, bytes(text), strlen(text), OUT))
 
 /* What codes mean. */
 static const struct meaning {
@@ -80,13 +83,13 @@ static void texts_of_codes(void) {
     REQUIRE(asm_version() == FOLUGBEN_VERSION);
     for (int32_t form = -1; form <= 5; form += 6)
         ANSWERS(ASM_NO_FORM, asm_explain(form, bytes("[]"), 2, OUT));
-    SAYS("location 1: lists nest at most 8 deep",
+    SAYS("location 1: lists nest at most 8 deep", ASM_SENTENCE_LIMIT,
          asm_explain(ASM_FORM_LOCATIONS,
                      TEXT("[['x',{'list':[{'list':[{'list':[{'list':[{'list':[{'list':[{'list':[{'list':[{'list':[]}"
                           "]}]}]}]}]}]}]}]}]]"),
                      OUT));
     for (size_t i = 0; i < sizeof meanings / sizeof *meanings; i++)
-        SAYS(meanings[i].said, asm_error_text(meanings[i].code, OUT));
+        SAYS(meanings[i].said, strlen(meanings[i].said), asm_error_text(meanings[i].code, OUT));
     for (int32_t code = -2; code < 50; code++) {
         bool known = code >= ASM_DONE && code <= ASM_NO_INSTRUCTION;
         REQUIRE(asm_error_text(code, out, sizeof out, &written) == ASM_DONE && written > 0);
@@ -94,8 +97,43 @@ static void texts_of_codes(void) {
     }
 }
 
+/* A script whose last agent's last step has 65 blocks, and the last block 4,096 instructions, of which this is the last. */
+static const char *script_with(const char *instruction) {
+    static char script[1 << 17];
+    char *at = stpcpy(script, "{\"agents\":[");
+    for (int agent = 0; agent < 255; agent++)
+        at = stpcpy(at, "[],");
+    at = stpcpy(at, "[");
+    for (int step = 0; step < 9999; step++)
+        at = stpcpy(at, "[[]],");
+    at = stpcpy(at, "[");
+    for (int block = 0; block < 64; block++)
+        at = stpcpy(at, "[],");
+    at = stpcpy(at, "[");
+    for (int instr = 0; instr < 4095; instr++)
+        at = stpcpy(at, "[\"inc\",[\"x\"],1],");
+    stpcpy(stpcpy(at, instruction), "]]]],\"init\":[]}");
+    return script;
+}
+
+/* None of the longest sentences gives way to the one for sentences above the limit. */
+static void longest_sentences(void) {
+    static const char letters[] = "abcdefghijklmnopqrstuvwxyzabcdefghijklmnopqrstuvwxyzabcdefghijkl";
+    char instruction[128], said[ASM_SENTENCE_LIMIT], lines[1024];
+    EXPLAINS("agent 255 step 9999 block 64 instruction 4095: a term is a value, {\"val\":LOC} or {\"sum\":[TERM,TERM]}, and a "
+             "value is no object but a list, a set or a bag",
+             ASM_FORM_SCRIPT, script_with("[\"put\",[\"x\"],{}]"));
+    snprintf(instruction, sizeof instruction, "[\"%s\",[\"x\"],1]", letters);
+    snprintf(said, sizeof said, "agent 255 step 9999 block 64 instruction 4095: unknown word \"%s\"", letters);
+    EXPLAINS(said, ASM_FORM_SCRIPT, script_with(instruction));
+    memset(lines, '\n', sizeof lines - 2);
+    memcpy(lines + sizeof lines - 2, "[", 2);
+    EXPLAINS("not JSON: cut off after byte 1023, in line 1023", ASM_FORM_SCRIPT, lines);
+}
+
 int main(void) {
     texts_of_codes();
+    longest_sentences();
     puts("passed");
     return 0;
 }

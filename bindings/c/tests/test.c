@@ -89,7 +89,7 @@ static void no_bytes(void) {
     REQUIRE(asm_replay(NULL, 0, NULL, 0, &written, &line) == ASM_CUT && written == 0 && line == 0);
     REQUIRE(asm_trace(NULL, 0, NULL, 0, &written, &line) == ASM_CUT && written == 0 && line == 0);
     REQUIRE(asm_error_text(0, NULL, 0, &written) == ASM_SMALL && written == 4);
-    REQUIRE(asm_explain(ASM_FORM_STATE, NULL, 0, NULL, 0, &written) == ASM_SMALL && written > 0);
+    REQUIRE(asm_explain(ASM_FORM_STATE, NULL, 0, NULL, 0, &written) == ASM_SMALL && written == ASM_SENTENCE_LIMIT);
     asm_free_storage(&storage);
 }
 

@@ -128,11 +128,12 @@ pub extern "C" fn asm_compose(
 /// Write a sentence that says where and why a text isn't of a form.
 /// Calls that take the form refuse such a text with `ASM_NOT_JSON` or `ASM_SHAPE`. The sentence is empty, with
 /// `written` 0, exactly if the form's readers accept the text. It says nothing of what makes `ASM_MANY`, nor of an
-/// event that doesn't fit the journal's first line. The sentences may change with the version.
+/// event that doesn't fit the journal's first line. The sentences may change with the version. Each is one line of at
+/// most 512 bytes.
 ///
 /// # Errors
 /// - `ASM_NO_FORM`: there is no such form.
-/// - `ASM_SMALL`: `out` is too small, and `written` is the room that is needed.
+/// - `ASM_SMALL`: `out` is too small, and `written` is 512, whichever the sentence is.
 /// - `ASM_MEMORY`: out of memory.
 #[unsafe(no_mangle)]
 pub extern "C" fn asm_explain(

@@ -1,8 +1,9 @@
 -- The sentence on a journal's first fault.
-use Rattle.std.specs.Prelude.{◌≡◌, ◌≢◌, ◌==◌, ◌+◌, ◌++◌, ℕ, List, [], codes, count_by}
+use Rattle.std.specs.Prelude.{◌≡◌, ◌≢◌, ◌≤◌, ◌==◌, ◌+◌, ◌++◌, ℕ, List, [], codes, count_by, length}
 use Rattle.std.specs.Fmt.{decimal}
 use Rattle.asm_journal.specs.Fault.{IsRefused}
 use Rattle.asm_journal.specs.Reading.{HasNoLineFeed}
+use Rattle.asm_explain.specs.Limits.{sentence_limit}
 use Rattle.asm_journal.specs.declared.error.JournalError.{JournalError}
 use Rattle.asm_journal.specs.declared.error.JournalError.TheVariants as error
 
@@ -13,7 +14,7 @@ line_sentence k why = codes "journal line " ++ decimal k ++ codes ": " ++ why
 -- the sentence names this line, and then says something of it, in one line
 abbrev pub NamesLine : ℕ → List ℕ → Type 0
 NamesLine k sentence =
-    (why : List ℕ) × (why ≢ []) × HasNoLineFeed why × (sentence ≡ line_sentence k why)
+    (why : List ℕ) × (why ≢ []) × HasNoLineFeed why × (length why ≤ sentence_limit) × (sentence ≡ line_sentence k why)
 
 -- the number of the last line: it is behind all line feeds, and is empty where the text ends with one
 abbrev pub last_line : List ℕ → ℕ

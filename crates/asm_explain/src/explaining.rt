@@ -1,9 +1,10 @@
 //! Whether a text reads as a form, and a sentence that says where and why it doesn't.
-ghost use Rattle.std.specs.Prelude.{◌≡◌, ◌≢◌, ◌⊎◌, [], true, false, string_bytes};
+ghost use Rattle.std.specs.Prelude.{◌≡◌, ◌≢◌, ◌≤◌, ◌⊎◌, [], true, false, length, string_bytes};
 ghost use Rattle.std.specs.Prelude.{IfOk, IfNone, IfSome};
 ghost use Rattle.asm_journal.specs.Reading.{HasNoLineFeed};
 ghost use Rattle.asm_explain.specs.Bytes.{IsNoJson, IsOtherJson, ReadAs};
 ghost use Rattle.asm_explain.specs.Forms.{IsOfForm, IsOfNoForm};
+ghost use Rattle.asm_explain.specs.Limits.{sentence_limit};
 ghost use Rattle.asm_explain.specs.declared.explaining.Form.TheVariants as forms;
 
 use crate::fault::{LOCATIONS, OBJECT, SCRIPT, STATE, sentence_of, why_not};
@@ -115,6 +116,7 @@ fn why_other(alloc: Global, form: Form, json: &Json) -> Result<Option<String>, A
 fn sentence(alloc: Global, form: Form, text: &[u8]) -> Result<String, AllocError>
     ensures some { IfOk result (λ s. string_bytes s ≢ []) }
     ensures one_line { IfOk result (λ s. HasNoLineFeed (string_bytes s)) }
+    ensures short { IfOk result (λ s. length (string_bytes s) ≤ sentence_limit) }
 {
     let said = match Json::from_slice(alloc, text) {
         Ok(json) => why_other(alloc, form, &json)?.unwrap_or(String::new(alloc)),
@@ -126,10 +128,11 @@ fn sentence(alloc: Global, form: Form, text: &[u8]) -> Result<String, AllocError
 
 /// Explain where and why a text isn't of this form; return None if it is.
 ///
-/// The sentence isn't empty and has no line feed. The call judges what the readers of these forms accept, and nothing
-/// for which another call is refused: more than 256 locations are locations. A script is accepted if `parse_script`
-/// reads it, within its limits. Agents, steps, blocks, instructions and pairs of a script are counted from 0, as in its
-/// report; the parts of other texts, bytes and lines from 1. The choice of the sentence is tested.
+/// The sentence isn't empty, has no line feed, and has at most `SENTENCE_LIMIT` bytes. The call judges what the readers of
+/// these forms accept, and nothing for which another call is refused: more than 256 locations are locations. A script is
+/// accepted if `parse_script` reads it, within its limits. Agents, steps, blocks, instructions and pairs of a script are
+/// counted from 0, as in its report; the parts of other texts, bytes and lines from 1. The choice of the sentence is
+/// tested.
 ///
 /// # Errors
 ///
@@ -139,6 +142,7 @@ pub fn explain(alloc: Global, form: Form, text: &[u8]) -> Result<Option<String>,
     ensures refused { IfOk result (λ said. IfSome said (λ s. IsOfNoForm form text.now)) }
     ensures reports { IfOk result (λ said. IfSome said (λ s. string_bytes s ≢ [])) }
     ensures one_line { IfOk result (λ said. IfSome said (λ s. HasNoLineFeed (string_bytes s))) }
+    ensures short { IfOk result (λ said. IfSome said (λ s. length (string_bytes s) ≤ sentence_limit)) }
 {
     if accepts(alloc, form, text)? {
         return Ok(None);

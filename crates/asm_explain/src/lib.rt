@@ -13,3 +13,4 @@ mod sentence;
 pub use explaining::{Form, explain};
 pub use journal::explain_journal;
 pub use reading::{Fire, TextError, fire_of, read_as, read_quickly};
+pub use sentence::SENTENCE_LIMIT;

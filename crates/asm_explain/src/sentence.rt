@@ -1,8 +1,12 @@
 //! Sentences on what is wrong in a text.
-ghost use Rattle.std.specs.Prelude.{◌≢◌, ◌↔◌, [], IfOk, IsTrue, string_bytes};
+ghost use Rattle.std.specs.Prelude.{◌≢◌, ◌≤◌, ◌↔◌, [], IfOk, IsTrue, length, string_bytes};
 ghost use Rattle.asm_journal.specs.Reading.{HasNoLineFeed};
+ghost use Rattle.asm_explain.specs.Limits.{sentence_limit};
 
 use std::alloc::{AllocError, Global};
+
+/// The most bytes of a sentence.
+pub const SENTENCE_LIMIT: usize = 512;
 
 /// Return the number with a comma before each three of its last digits.
 pub(crate) fn grouped(alloc: Global, number: usize) -> Result<String, AllocError> {
@@ -25,14 +29,15 @@ fn has_no_line_feed(text: &[u8]) -> bool
     text.iter().all(|byte| *byte != b'\n')
 }
 
-/// Return the sentence if it is one line and not empty.
+/// Return the sentence if it is one line, not empty and not too long.
 ///
 /// Else return the sentence that the text has another shape.
 pub(crate) fn as_one_line(alloc: Global, said: String) -> Result<String, AllocError>
     ensures some { IfOk result (λ s. string_bytes s ≢ []) }
     ensures one_line { IfOk result (λ s. HasNoLineFeed (string_bytes s)) }
+    ensures short { IfOk result (λ s. length (string_bytes s) ≤ sentence_limit) }
 {
-    if said.is_empty() || !has_no_line_feed(said.as_bytes()) {
+    if said.is_empty() || said.len() > SENTENCE_LIMIT || !has_no_line_feed(said.as_bytes()) {
         return String::from_str(alloc, "JSON of another shape");
     }
     Ok(said)

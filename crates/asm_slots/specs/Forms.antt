@@ -1,10 +1,12 @@
 -- The forms of texts that are explained.
-use Rattle.std.specs.Prelude.{◌≡◌, ◌≢◌, ◌⊎◌, ℕ, ℤ, pos, List, []}
+use Rattle.std.specs.Prelude.{◌≡◌, ◌≢◌, ◌⊎◌, ◌<◌, ◌≤◌, ℕ, ℤ, pos, List, [], length}
+use Rattle.asm_journal.specs.Reading.{HasNoLineFeed}
 use Rattle.asm_explain.specs.Forms.{IsOfForm, IsOfNoForm}
+use Rattle.asm_explain.specs.Limits.{sentence_limit}
 use Rattle.asm_explain.specs.declared.explaining.Form.{Form}
 use Rattle.asm_explain.specs.declared.explaining.Form.TheVariants as form
 use Rattle.asm_slots.specs.Answers.{IsMemory}
-use Rattle.asm_slots.specs.WrittenText.{HasNoText, HasText, WritesNothing}
+use Rattle.asm_slots.specs.WrittenText.{HasText, WritesNothing}
 use Rattle.asm_slots.specs.declared.codes.Code.{Code}
 use Rattle.asm_slots.specs.declared.codes.Code.TheVariants as code
 
@@ -48,16 +50,23 @@ HasForm number bytes = (f : Form) × (form_code f ≡ number) × IsOfForm f byte
 abbrev pub LacksForm : ℤ → List ℕ → Type 0
 LacksForm number bytes = (f : Form) × (form_code f ≡ number) × IsOfNoForm f bytes
 
--- the bytes aren't of the form, and this is a sentence about it
+-- the bytes aren't of the form, and this is a sentence about it, in one line
 abbrev pub IsSentence : ℤ → List ℕ → List ℕ → Type 0
-IsSentence form bytes text = LacksForm form bytes × (text ≢ [])
+IsSentence form bytes text =
+    LacksForm form bytes × (text ≢ []) × HasNoLineFeed text × (length text ≤ sentence_limit)
 
 -- the bytes are of the form, and nothing is written; or a sentence is
 abbrev pub Explains : ℤ → List ℕ → List ℕ → List ℕ → ℕ → Type 0
 Explains form bytes out after written =
     (HasForm form bytes × WritesNothing out after written) ⊎ HasText (IsSentence form bytes) out after written
 
--- there is no such form, or the sentence is too long
+-- the bytes aren't of the form, and the buffer may lack room for a sentence: any fits into what is asked for
+abbrev pub LacksSentenceRoom : ℤ → List ℕ → ℕ → ℕ → Code → Type 0
+LacksSentenceRoom form bytes room written c =
+    (c ≡ code.Small) × LacksForm form bytes × (written ≡ sentence_limit) × (room < sentence_limit)
+
+-- the buffer is unchanged: there is no such form, or it lacks room for a sentence
 abbrev pub DoesNotExplain : ℤ → List ℕ → List ℕ → List ℕ → ℕ → Code → Type 0
-DoesNotExplain form bytes =
-    HasNoText (IsSentence form bytes) (λ c. IsMemory c ⊎ ((c ≡ code.NoForm) × IsNoForm form))
+DoesNotExplain form bytes out after written c =
+    (after ≡ out) × (LacksSentenceRoom form bytes (length out) written c
+    ⊎ ((written ≡ 0) × (IsMemory c ⊎ ((c ≡ code.NoForm) × IsNoForm form))))

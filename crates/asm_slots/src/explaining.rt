@@ -2,8 +2,8 @@
 ghost use Rattle.std.specs.Prelude.{◌≡◌, IfNone, IfSome, MatchResult};
 ghost use Rattle.asm_slots.specs.Forms.{DoesNotExplain, Explains, IsNoForm, form_code};
 
-use crate::codes::{Code, write};
-use asm_explain::Form;
+use crate::codes::{Code, copy_into};
+use asm_explain::{Form, SENTENCE_LIMIT};
 use std::alloc::Global;
 
 fn form_of(form: i32) -> Option<Form>
@@ -41,5 +41,11 @@ pub fn explain(
     let Some(said) = asm_explain::explain(alloc, form, text)? else {
         return Ok(());
     };
-    write(said.as_bytes(), out, written)
+    let said = said.as_bytes();
+    if out.len() < said.len() {
+        *written = SENTENCE_LIMIT;
+        return Err(Code::Small);
+    }
+    copy_into(said, out, written);
+    Ok(())
 }
