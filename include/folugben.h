@@ -902,7 +902,8 @@ FOLUGBEN_NODISCARD int32_t asm_run_end(struct asm_run *run, asm_audit_numbers *t
 FOLUGBEN_NODISCARD int32_t asm_run_skip(struct asm_run *run);
 
 /* Writes the state [PAIR, ..] that the segments leave, with which the next storage must open.
- * ASM_EMPTY, ASM_NO_PART (no text was read), ASM_SMALL, ASM_MEMORY. */
+ * ASM_EMPTY, ASM_ORDER (a text is open or was refused), ASM_NO_PART (no text was read), ASM_SMALL,
+ * ASM_MEMORY. */
 FOLUGBEN_NODISCARD int32_t asm_run_state(struct asm_run *run, uint8_t *out, size_t room,
     size_t *written);
 

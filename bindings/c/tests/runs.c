@@ -252,12 +252,14 @@ static void calls_have_an_order(void) {
     WRITES(ASM_DONE, "[[['n'],2]]", asm_run_state(&run, OUT));
     REQUIRE(takes(&run, it.names[2], it.texts[2].len, &found) == ASM_DONE &&
             asm_run_skip(&run) == ASM_ORDER);
+    ANSWERS(ASM_ORDER, asm_run_state(&run, OUT));
     REQUIRE(asm_run_text(&run, bytes("x"), 1) == ASM_DONE &&
             asm_run_end(&run, &told) == ASM_DAMAGED);
     REQUIRE(asm_run_text(&run, bytes("x"), 1) == ASM_ORDER &&
             asm_run_end(&run, &told) == ASM_ORDER);
     REQUIRE(takes(&run, it.names[2], it.texts[2].len, &found) == ASM_ORDER &&
             asm_run_read(&run) == ASM_ORDER);
+    ANSWERS(ASM_ORDER, asm_run_state(&run, OUT));
     REQUIRE(hand(&run, 2, name) == ASM_ORDER && saved_of(&run, digest).segments == 0);
     asm_free_run(&run);
     REQUIRE(read_all(&run, &it, 0, &told) == ASM_DONE && asm_run_read(&run) == ASM_DONE);

@@ -1,10 +1,10 @@
 //! Runs in folders: what is read of one, and which call of the system comes next as a segment is saved or dropped.
 ghost use Rattle.std.specs.Prelude.{◌≡◌, ◌⊎◌, Err, Ok, pos};
 ghost use Rattle.asm_run.specs.Protocol.{request_at};
-ghost use Rattle.asm_slots.specs.Answers.{EmptyOr, IsMemory};
+ghost use Rattle.asm_slots.specs.Answers.{EmptyOr};
 ghost use Rattle.asm_slots.specs.Audits.{no_numbers};
 ghost use Rattle.asm_slots.specs.Codes.{Replies};
-ghost use Rattle.asm_slots.specs.RunReads.{EndsText, HasReadNoText, IsRunState, SkipsText, TakesNameBytes, TakesText};
+ghost use Rattle.asm_slots.specs.RunReads.{EndsText, IsNoRunState, IsRunState, SkipsText, TakesNameBytes, TakesText};
 ghost use Rattle.asm_slots.specs.RunReads.{no_segment};
 ghost use Rattle.asm_slots.specs.RunWrites.{BeginsRun, DropsOrNot, GoesOnOrNot, Hands, HasSaved, NotesDone, NotesFailure};
 ghost use Rattle.asm_slots.specs.RunWrites.{no_run_numbers, number_of_request};
@@ -115,6 +115,7 @@ pub extern "C" fn asm_run_skip(alloc: Global, run: &mut Slot) -> i32
 /// # Errors
 /// - `ASM_SMALL`: `out` is too small, and `written` is the room that is needed.
 /// - `ASM_NO_PART`: no text was read.
+/// - `ASM_ORDER`: a text is open or was refused.
 /// - `ASM_EMPTY`: the slot has no run.
 /// - `ASM_MEMORY`: out of memory.
 #[unsafe(no_mangle)]
@@ -126,7 +127,7 @@ pub extern "C" fn asm_run_state(
 ) -> i32
     ensures text { WritesText (λ text. HoldsRun (content_of run.old) (λ x. IsRunState x text))
         (EmptyOr (HoldsNoRun (content_of run.old))
-        (λ c. IsMemory c ⊎ ((c ≡ variant.NoPart) × HoldsRun (content_of run.old) HasReadNoText)))
+        (λ c. HoldsRun (content_of run.old) (λ x. IsNoRunState x c)))
         out.old out.new written.new result }
     ensures kept { content_of run.new ≡ content_of run.old }
 {

@@ -122,12 +122,19 @@ SkipsText r old new =
     ⊎ (Refuses code.Order r old new
     × ((old.trail.place ≢ Within) ⊎ HasFed old.trail old.fault))
 
--- the text is the JSON of the state that the segments leave
+-- the next name may come, and the text is the JSON of the state that the segments leave
 abbrev pub IsRunState : RunView → List ℕ → Type 0
 IsRunState x text =
-    (S : State) × (text ≡ compact_text (state_json_of S)) × ((skipped segments : List Saved) →
-    HasReadSo x skipped segments → IsStateAfter part segments (Some S))
+    (x.trail.place ≡ Between) × ((S : State) × (text ≡ compact_text (state_json_of S))
+    × ((skipped segments : List Saved) → HasReadSo x skipped segments → IsStateAfter part segments (Some S)))
 
 -- no text was read
 abbrev pub HasReadNoText : RunView → Type 0
 HasReadNoText x = (skipped segments : List Saved) → HasReadSo x skipped segments → segments ≡ []
+
+-- why no state is written: memory was refused, no text was read, or one is open or was refused
+abbrev pub IsNoRunState : RunView → Code → Type 0
+IsNoRunState x code.Memory = Unit {0}
+IsNoRunState x code.NoPart = (x.trail.place ≡ Between) × HasReadNoText x
+IsNoRunState x code.Order = x.trail.place ≢ Between
+IsNoRunState x _ = ⊥

@@ -4,13 +4,11 @@
 ghost use Rattle.std.specs.Prelude.{◌≡◌, ◌↔◌, ◌⊎◌, IfErr, IfOk, IsTrue, string_bytes};
 ghost use Rattle.asm_run.specs.Protocol.{request_at};
 ghost use Rattle.asm_run.specs.declared.stage.Stage.TheVariants as at;
-ghost use Rattle.asm_slots.specs.Answers.{IsMemory};
-ghost use Rattle.asm_slots.specs.RunReads.{EndsText, HasReadNoText, IsRunState, SkipsText, TakesName, TakesNameBytes, TakesText};
+ghost use Rattle.asm_slots.specs.RunReads.{EndsText, IsNoRunState, IsRunState, SkipsText, TakesName, TakesNameBytes, TakesText};
 ghost use Rattle.asm_slots.specs.RunReads.{code_of_read, no_segment, numbers_of_read, segment_of_name};
 ghost use Rattle.asm_slots.specs.RunWrites.{DropsOrNot, GoesOnOrNot, Hands, HasBegun, HasSaved, NotesDone, NotesFailure};
 ghost use Rattle.asm_slots.specs.RunWrites.{code_of_write, no_run_numbers, number_of_request};
 ghost use Rattle.asm_slots.specs.WrittenText.{IsWritten};
-ghost use Rattle.asm_slots.specs.declared.codes.Code.TheVariants as variant;
 
 use crate::audit::AuditNumbers;
 use crate::auditing::code_of_audit_error;
@@ -262,8 +260,12 @@ impl Run {
     // Return the text of the state that the segments leave.
     pub(crate) fn state(&self, alloc: Global) -> Result<String, Code>
         ensures ok { IfOk result (λ text. IsRunState self.now (string_bytes text)) }
-        ensures err { IfErr result (λ c. IsMemory c ⊎ ((c ≡ variant.NoPart) × HasReadNoText self.now)) }
+        ensures err { IfErr result (IsNoRunState self.now) }
     {
+        match self.reader.trail.place {
+            Place::Between => {}
+            Place::Within | Place::Refused => return Err(Code::Order),
+        }
         match self.reader.state(alloc)? {
             Some(left) => Ok(state_text(alloc, &left)?),
             None => Err(Code::NoPart),

@@ -1,8 +1,8 @@
 //! Runs in slots: reading their folders, and saving in them.
 ghost use Rattle.std.specs.Prelude.{◌≡◌, ◌⊎◌, Err, IfOk, Ok, pos};
-ghost use Rattle.asm_slots.specs.Answers.{EmptyOr, IsMemory};
+ghost use Rattle.asm_slots.specs.Answers.{EmptyOr};
 ghost use Rattle.asm_slots.specs.Audits.{no_numbers};
-ghost use Rattle.asm_slots.specs.RunReads.{EndsText, HasReadNoText, IsRunState, SkipsText, TakesNameBytes, TakesText};
+ghost use Rattle.asm_slots.specs.RunReads.{EndsText, IsNoRunState, IsRunState, SkipsText, TakesNameBytes, TakesText};
 ghost use Rattle.asm_slots.specs.RunReads.{no_segment};
 ghost use Rattle.asm_slots.specs.RunWrites.{BeginsRun, DropsOrNot, GoesOnOrNot, Hands, HasBegun, HasSaved, NotesDone};
 ghost use Rattle.asm_slots.specs.RunWrites.{NotesFailure, no_run_numbers, number_of_request};
@@ -94,7 +94,7 @@ pub fn state(
 ) -> Result<(), Code>
     ensures text { IsWritten (λ text. HoldsRun (content_of slot.old) (λ x. IsRunState x text))
         (EmptyOr (HoldsNoRun (content_of slot.old))
-        (λ c. IsMemory c ⊎ ((c ≡ variant.NoPart) × HoldsRun (content_of slot.old) HasReadNoText)))
+        (λ c. HoldsRun (content_of slot.old) (λ x. IsNoRunState x c)))
         out.old out.new written.new result }
     ensures kept { content_of slot.new ≡ content_of slot.old }
 {
