@@ -226,18 +226,16 @@ fn print_folder_reason<R: Eprint>(rt: &R, alloc: Global, name: &str, file: &str,
     let _written = eprintln!(rt; "asm_driver: {name}: {file}: {reason}");
 }
 
-// Audit the run in a folder, and return the status.
+// Audit the run in the folder at this path, and return the status.
 fn audit_folder<R: Runtime + AllocGlobal + Threads + Wait + Sync>(
     rt: &R,
     alloc: Global,
     words: &[String],
     name: &str,
-    folder: RunFolder<'_, R>,
+    path: String,
     names: &[String],
 ) -> u8 {
-    let mut folder = folder;
-    // None of its files has been opened yet.
-    folder.has_failed = false;
+    let mut folder = RunFolder::new(rt, alloc, path);
     let mut output = Output::new(alloc, io::writer(rt), false);
     let status = run_folder(rt, alloc, words, names, &mut folder, &mut output);
     let line = output.last.as_slice();
@@ -275,22 +273,22 @@ fn print_unread<R: Eprint>(
     Ok(())
 }
 
-// Do what is asked for with a folder that has files of these names.
+// Do what is asked for with the folder at this path, which has files of these names.
 fn run_on_folder<R: Runtime + AllocGlobal + Threads + Wait + Sync>(
     rt: &R,
     alloc: Global,
     invocation: Invocation<'_>,
     words: Vec<String>,
     name: &str,
-    folder: RunFolder<'_, R>,
+    path: String,
     names: Vec<String>,
 ) -> Result<u8, NoRequest> {
     if invocation.command == "audit" {
         let words = words.as_slice();
-        return Ok(audit_folder(rt, alloc, words, name, folder, names.as_slice()));
+        return Ok(audit_folder(rt, alloc, words, name, path, names.as_slice()));
     }
     if invocation.is_window {
-        match open_segments(alloc, folder, names.as_slice()) {
+        match open_segments(rt, alloc, path, names.as_slice()) {
             Ok(Some(run)) => return Ok(run_on(rt, alloc, invocation, words, name, run)),
             Ok(None) => {}
             Err(_) => return Err(NoRequest::Memory),
@@ -312,8 +310,8 @@ fn run_on_file<R: Runtime + AllocGlobal + Threads + Wait + Sync>(
     let name = name.as_str();
     match open(rt, alloc, path) {
         Ok(Opened::File(file)) => Ok(run_on(rt, alloc, invocation, words, name, file)),
-        Ok(Opened::Folder(folder, names)) => {
-            run_on_folder(rt, alloc, invocation, words, name, folder, names)
+        Ok(Opened::Folder(path, names)) => {
+            run_on_folder(rt, alloc, invocation, words, name, path, names)
         }
         Err(error) if error.kind() == ErrorKind::NotFound => Err(NoRequest::Wrong(format!(in alloc;
             "asm_driver: {name}: there is no such file\n"

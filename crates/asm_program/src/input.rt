@@ -1,5 +1,5 @@
 //! What the program reads: standard input, a file, or the segments of a run's folder.
-ghost use Rattle.std.specs.Prelude.{◌≤◌, length, vec_len, IfSome};
+ghost use Rattle.std.specs.Prelude.{◌≡◌, ◌≤◌, false, length, vec_len, IfSome};
 ghost use Rattle.std.specs.Option.{option_and_then};
 ghost use Rattle.std.specs.Io.{ReadsAtMost};
 ghost use Rattle.std.specs.Io.KnownBytes.{ReadConsumes};
@@ -93,7 +93,10 @@ pub(crate) struct RunFolder<'r, R: Files> {
 }
 
 impl<'r, R: Files> RunFolder<'r, R> {
-    fn new(rt: &'r R, alloc: Global, path: String) -> RunFolder<'r, R> {
+    /// Return the folder at this path, of which no file is open.
+    pub(crate) fn new(rt: &'r R, alloc: Global, path: String) -> RunFolder<'r, R>
+        ensures { result.has_failed ≡ false }
+    {
         RunFolder {
             rt,
             alloc,
@@ -198,10 +201,10 @@ impl Read for Unreadable {
 
 /// What a name leads to.
 #[derive(Drop)]
-pub(crate) enum Opened<'r, R: Files> {
-    File(R::File),
-    /// A folder, with the names of its files.
-    Folder(RunFolder<'r, R>, Vec<String>),
+pub(crate) enum Opened<F> {
+    File(F),
+    /// The path of a folder, with the names of its files.
+    Folder(String, Vec<String>),
 }
 
 // Return the size of a regular file. Another one isn't opened, as a pipe would wait for its writer.
@@ -260,10 +263,11 @@ fn are_chained(alloc: Global, names: &[String]) -> bool {
     !names.is_empty()
 }
 
-/// Return the segments of a run, one after the other; `None` if the names aren't those of a run.
+/// Return the segments of the run at this path, one after the other; `None` if the names aren't those of a run.
 pub(crate) fn open_segments<'r, R: Files>(
+    rt: &'r R,
     alloc: Global,
-    folder: RunFolder<'r, R>,
+    path: String,
     names: &[String],
 ) -> io::Result<Option<Segments<'r, R>>> {
     let mut names = segment_files(alloc, names)?;
@@ -271,19 +275,19 @@ pub(crate) fn open_segments<'r, R: Files>(
         return Ok(None);
     }
     names.reverse();
+    let folder = RunFolder::new(rt, alloc, path);
     Ok(Some(Segments { folder, names }))
 }
 
 /// Open a file, or list a folder.
-pub(crate) fn open<'r, R: Runtime + AllocGlobal + Wait>(
-    rt: &'r R,
+pub(crate) fn open<R: Runtime + AllocGlobal + Wait>(
+    rt: &R,
     alloc: Global,
     path: &str,
-) -> io::Result<Opened<'r, R>> {
+) -> io::Result<Opened<R::File>> {
     if fs::metadata(rt, path)?.is_dir() {
         let names = names_in(rt, alloc, path)?;
-        let path = String::from_str(alloc, path)?;
-        return Ok(Opened::Folder(RunFolder::new(rt, alloc, path), names));
+        return Ok(Opened::Folder(String::from_str(alloc, path)?, names));
     }
     let _size = regular_size(rt, path)?;
     Ok(Opened::File(fs::open(rt, path)?))
