@@ -13,14 +13,14 @@ use crate::lend;
 use crate::owned_agent::OwnedAgent;
 use crate::slot::Slot;
 use asm_aggregate::Standard;
-use asm_journal::state_text;
+use asm_journal::{list_text, state_text};
 use asm_transaction::Transaction;
 use std::alloc::Global;
 use std::str;
 
-// Return the text of what the transaction shows at the locations with this name.
+// Return the text of what the transaction shows at the locations with this name, by a copy of it.
 #[tactic(auto, using(crate::proofs::Refused::unseen_as))]
-fn found_text(
+fn copied_text(
     alloc: Global,
     agent: &OwnedAgent,
     step: &Transaction,
@@ -34,6 +34,24 @@ fn found_text(
     // Proof: the clause is about a state without undef, and only this call shows that it is one.
     found.proper();
     Ok(state_text(alloc, &found)?)
+}
+
+// Return the text of what the transaction shows at the locations with this name. It copies no value if no move is pushed.
+#[tactic(auto, using(crate::proofs::Refused::unseen_as))]
+fn found_text(
+    alloc: Global,
+    agent: &OwnedAgent,
+    step: &Transaction,
+    name: &str,
+) -> Result<String, Code>
+    ensures text { IfOk result (λ text. IsFoundText name.now agent.now step.now (string_bytes text)) }
+    ensures reached { OnOk result (HasReached agent.now step.now) }
+    ensures err { IfErr result (Errs (IsUnseen agent.now.number step.now)) }
+{
+    let Some(list) = step.list_name::<Standard>(alloc, agent.state(), name)? else {
+        return copied_text(alloc, agent, step, name);
+    };
+    Ok(list_text(alloc, &list)?)
 }
 
 #[tactic(auto, using(crate::proofs::Refused::unscanned_unseen, crate::proofs::Refused::unscanned_untaken, crate::proofs::Refused::untaken_as))]

@@ -17,7 +17,7 @@ use crate::slot::Slot;
 use crate::take_and_put::{put_agent, take_agent};
 use crate::value_head::{ValueHead, write_value_at};
 use asm_element::{Location, Value};
-use asm_journal::{answer_text, state_text, values_text};
+use asm_journal::{answer_text, list_text, state_text, values_text};
 use asm_storage::{Answer, ReadError, Reply};
 use asm_update::Lookup;
 use std::alloc::{AllocError, Global};
@@ -77,7 +77,8 @@ pub fn own_state(
     write(own.text.as_bytes(), out, written)
 }
 
-fn own_of_name(alloc: Global, agent: &OwnedAgent, name: &str) -> Result<StateText, AllocError>
+// Return the text of the state at the locations with this name, by a copy of it.
+fn copied_of_name(alloc: Global, agent: &OwnedAgent, name: &str) -> Result<StateText, AllocError>
     ensures { IfOk result (λ s. IsOwnOfName name.now agent.now s.number (string_bytes s.text)) }
 {
     let state = agent.state();
@@ -85,6 +86,20 @@ fn own_of_name(alloc: Global, agent: &OwnedAgent, name: &str) -> Result<StateTex
     // Proof: the clause is about a state without undef, and only this call shows that it is one.
     plain.proper();
     let text = state_text(alloc, &plain)?;
+    Ok(StateText {
+        number: state.number(),
+        text,
+    })
+}
+
+fn own_of_name(alloc: Global, agent: &OwnedAgent, name: &str) -> Result<StateText, AllocError>
+    ensures { IfOk result (λ s. IsOwnOfName name.now agent.now s.number (string_bytes s.text)) }
+{
+    let state = agent.state();
+    let Some(list) = state.list_of_name(alloc, name)? else {
+        return copied_of_name(alloc, agent, name);
+    };
+    let text = list_text(alloc, &list)?;
     Ok(StateText {
         number: state.number(),
         text,

@@ -1,5 +1,5 @@
 use Rattle.asm_aggregate.specs.Standard.{standard_meaning}
-use Rattle.asm_slots.proofs.getting_all.found_text.Goals as goal
+use Rattle.asm_slots.proofs.getting_all.copied_text.Goals as goal
 
 pub returns-clause-text : goal.returns-clause-text
 unfolding standard_meaning

@@ -1,6 +1,6 @@
 use Rattle.std.proofs.Common.{string_bytes}
 use Rattle.asm_slots.proofs.OwnStates.{own_of_name}
-use Rattle.asm_slots.proofs.own_state.own_of_name.Goals as goal
+use Rattle.asm_slots.proofs.own_state.copied_of_name.Goals as goal
 
 pub returns : goal.returns
 returns c =
