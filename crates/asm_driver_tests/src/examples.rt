@@ -6,4 +6,4 @@ mod script;
 mod shared;
 mod steps;
 mod trace;
-mod two_agents;
+mod transfer;

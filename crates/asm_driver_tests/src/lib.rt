@@ -1,5 +1,5 @@
 //! Tests of `asm_driver` and of what it uses, `asm_play`, `asm_script` and `asm_step`, of what no case of the program
-//! shows; and the examples of the pages. They see public items alone.
+//! shows; of `asm_transaction`; and the examples of the pages. They see public items alone.
 #![tactic(auto)]
 
 #[cfg(test)]

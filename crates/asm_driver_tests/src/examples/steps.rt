@@ -17,8 +17,8 @@ fn one_move_does_what_three_do_in_turn(rt: HostRuntime) -> Result<(), Fail> {
     step.push(alloc, &standard(), &state, &put)?;
     step.push(alloc, &standard(), &state, &raise)?;
     step.extend(alloc, &standard(), &state, &raise)?;
-    assert_eq!(rt; step.depth(), 2);
     assert_eq!(rt; step.get(&state, &at), Some(&number(5)));
+    assert_eq!(rt; step.depth(), 2);
 
     let updates = aggregate(alloc, &standard(), &state, &step.as_move(alloc)?)?;
     assert_eq!(rt; updates.get(&at), Some(&number(5)));
