@@ -21,6 +21,8 @@ mod refusals;
 #[cfg(test)]
 mod running;
 #[cfg(test)]
+mod transactions;
+#[cfg(test)]
 mod watches;
 #[cfg(test)]
 mod windows;
