@@ -16,7 +16,8 @@ use Rattle.asm_element.specs.Value as value
 use Rattle.asm_element.specs.Value.{is_undef, undef, undef_is}
 use Rattle.asm_element.specs.declared.value.Value.{Value}
 use Rattle.asm_update.specs.State.{val}
-use Rattle.asm_state.specs.Listed.{IsListed, IsListing, by_value, entry_value, front, from_on, listing, seen, seen_all, seen_below, starts_at}
+use Rattle.asm_state.specs.Listed.{IsListing, by_value}
+use Rattle.asm_state.specs.Merging.{IsListed, entry_value, front, from_on, listing, seen, seen_all, seen_below, starts_at}
 use Rattle.asm_state.specs.Plain.{value_of_name}
 use Rattle.asm_state.specs.Scans.{has_name}
 use Rattle.asm_state.specs.View.{StateView, value_over}

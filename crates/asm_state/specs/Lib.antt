@@ -2,6 +2,7 @@ pub mod Follow
 pub mod LeastNamed
 pub mod Listed
 pub mod Limits
+pub mod Merging
 pub mod Named
 pub mod Plain
 pub mod Replaced

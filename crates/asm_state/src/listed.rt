@@ -1,8 +1,10 @@
 //! The values of one function, listed in ascending order and not copied.
-ghost use Rattle.std.specs.Prelude.{◌≡◌, ◌++◌, [], All, drop, IfOk, IfSome, OnOk, unwrap_or};
+ghost use Rattle.std.specs.Prelude.{◌≡◌, ◌++◌, [], false, All, drop, IfOk, MatchOption, OnOk, unwrap_or};
 ghost use Rattle.std.specs.Option.{option_copied};
+ghost use Rattle.asm_element.specs.Place.{is_name};
 ghost use Rattle.asm_element.specs.Value.{undef};
-ghost use Rattle.asm_state.specs.Listed.{IsListed, IsListing, by_value, front, from_on, listing, seen, seen_all, seen_below, starts_at};
+ghost use Rattle.asm_state.specs.Listed.{IsListing, by_value};
+ghost use Rattle.asm_state.specs.Merging.{IsListed, front, from_on, listing, seen, seen_all, seen_below, starts_at};
 ghost use Rattle.asm_state.specs.Plain.{value_of_name};
 
 use crate::entries::WrittenValue;
@@ -145,7 +147,7 @@ impl State {
     /// Return the locations with this function name that aren't undef, each with its value, in ascending order.
     ///
     /// They are those of `of_name`, and no value is copied. The call walks the locations of that name alone, including
-    /// those that moves wrote undef. `None` is the answer to a text that is no name of a function.
+    /// those that moves wrote undef. `None` is the answer only to a text that is no name of a function.
     ///
     /// # Errors
     ///
@@ -155,7 +157,7 @@ impl State {
         alloc: Global,
         name: &str,
     ) -> Result<Option<Vec<(&Location, &Value)>>, AllocError>
-        ensures { IfOk result (λ found. IfSome found (λ list.
+        ensures { IfOk result (λ found. MatchOption found (is_name name.now ≡ false) (λ list.
             IsListing (value_of_name self.now name.now) (by_value list.items))) }
     {
         let owned = String::from_str(alloc, name)?;

@@ -1,6 +1,6 @@
 -- What a transaction shows of the state at its version, and how it grows.
 use Rattle.std.proofs.Common.{◌≡◌, ◌≤◌, ◌∙◌, ℕ, List, [], ◌∷◌, ◌++◌, cond, length, map, unwrap_or, Bool, true, false, Option, Some, None, refl, ap, arith, subst, sym}
-use Rattle.std.specs.Prelude.{IfSome}
+use Rattle.std.specs.Prelude.{MatchOption}
 use Rattle.asm_element.specs.Place.{Place}
 use Rattle.asm_element.specs.declared.value.Value.{Value}
 use Rattle.asm_update.specs.Aggregator.{Meaning}
@@ -10,7 +10,7 @@ use Rattle.asm_update.specs.State.{State, val}
 use Rattle.asm_overlay.proofs.FrameLemmas.{val-under}
 use Rattle.asm_overlay.specs.Frames.{OverView, seen_through, topmost, under}
 use Rattle.asm_element.specs.Value.{undef}
-use Rattle.asm_state.specs.Listed.{IsListing}
+use Rattle.asm_state.specs.Listed.{IsListOf, IsListing}
 use Rattle.asm_state.specs.Plain.{value_of_name}
 use Rattle.asm_state.specs.Scans.{has_name}
 use Rattle.asm_state.proofs.Judged.{same_old}
@@ -20,7 +20,7 @@ use Rattle.asm_storage.specs.Storage.{AgentAt, machine_of}
 use Rattle.asm_step.proofs.Layered.{fires_all}
 use Rattle.asm_step.specs.Layers.{Layer, AreLayers, IsStepOf, frames_of, scanned}
 use Rattle.asm_transaction.specs.Reading.{IsOf, IsShown, IsUnread, IsUnseen, IsUntracked, Shows, state_at}
-use Rattle.asm_transaction.specs.Scanning.{IsListOf, IsScan}
+use Rattle.asm_transaction.specs.Scanning.{IsScan}
 use Rattle.asm_transaction.specs.View.{TransactionView, new_transaction, pushed}
 use Rattle.asm_transaction.specs.declared.error.TransactionError.{TransactionError}
 use Rattle.asm_transaction.specs.declared.error.TransactionError.TheVariants as transaction_error
@@ -152,9 +152,10 @@ unpushed [] none P name l = by_test (has_name name l) where
   by_test false = refl
 unpushed (y ∷ layers) none P name l = absurd (omega (arith, none))
 
-pub some_weaker : {X : Type 0} (P Q : X → Type 0) → ((x : X) → P x → Q x) → (found : Option X) → IfSome found P → IfSome found Q
-some_weaker P Q gives (Some x) h = gives x h
-some_weaker P Q gives None h = tt
+pub found_weaker : {X : Type 0} {N M : Type 0} (P Q : X → Type 0) → (N → M) → ((x : X) → P x → Q x) → (found : Option X) →
+    MatchOption found N P → MatchOption found M Q
+found_weaker P Q none some (Some x) h = some x h
+found_weaker P Q none some None h = none h
 
 -- the list that a scan has where no move is pushed
 pub is_scan_list : {A : Type 0} (meaning : A → Meaning) (s : StateView) (t inside : TransactionView) (name : List ℕ)

@@ -1,15 +1,13 @@
 -- The scan of a function by a transaction.
-use Rattle.std.specs.Prelude.{◌≡◌, ◌≢◌, ◌≤◌, ◌<◌, ◌+◌, ◌⊎◌, ℕ, List, [], ◌∷◌, ◌++◌, length, Bool, Contains, Ok, Option, None, Some, nat_eq, string_bytes, if◌then◌else◌}
+use Rattle.std.specs.Prelude.{◌≡◌, ◌≢◌, ◌≤◌, ◌<◌, ◌+◌, ◌⊎◌, ℕ, List, [], ◌∷◌, ◌++◌, length, Bool, false, Contains, Ok, Option, None, Some, nat_eq, string_bytes, if◌then◌else◌}
 use Rattle.std.specs.Cmp.Lexicographic.{pointwise}
-use Rattle.std.specs.FinMap as finite
 use Rattle.std.specs.List.{list_any}
-use Rattle.asm_element.specs.Place.{Place}
+use Rattle.asm_element.specs.Place.{Place, is_name}
 use Rattle.asm_element.specs.Value.{undef}
-use Rattle.asm_element.specs.declared.value.Value.{Value}
 use Rattle.asm_state.specs.Scans.{has_name}
 use Rattle.asm_state.specs.declared.scanned.Scanned.{Scanned}
 use Rattle.asm_update.specs.Aggregator.{Meaning}
-use Rattle.asm_update.specs.State.{IsProper, State, val}
+use Rattle.asm_update.specs.State.{State, val}
 use Rattle.asm_storage.specs.Limits.{reads_limit}
 use Rattle.asm_storage.specs.Storage.{AgentAt}
 use Rattle.asm_step.specs.InTurn.{fire_all}
@@ -25,10 +23,9 @@ IsScan meaning a t name P =
     (S : State) × (fire_all (meaning a.storage.agg).part (Ok (state_at meaning a t.number)) (moves_of t) ≡ Ok S)
     × ((l : Place) → val P l ≡ (if has_name name l then val S l else undef))
 
--- the list has exactly the locations of a state without undef, each with its value, in ascending order, and the state
--- is one of these
-abbrev pub IsListOf : (State → Type 0) → List (Place × Value) → Type 0
-IsListOf is list = (P : State) × IsProper P × is P × (list ≡ finite.entries P)
+-- why a scan isn't listed: a move is pushed, or the text is no name of a function
+abbrev pub IsUnlisted : List ℕ → TransactionView → Type 0
+IsUnlisted name t = (1 ≤ length t.layers) ⊎ (is_name name ≡ false)
 
 -- the function is scanned: it was already, and nothing changes; or its name is put behind the others
 abbrev pub HasScanned : List ℕ → TransactionView → TransactionView → Type 0

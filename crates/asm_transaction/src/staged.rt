@@ -2,14 +2,14 @@
 //!
 //! So a caller does something else in between that may fail, such as writing into a buffer, before anything is tracked.
 //! Each call takes the agent's own state, which an agent and the part of an agent lend.
-ghost use Rattle.std.specs.Prelude.{◌≡◌, ◌≢◌, IfErr, IfOk, IfSome, OnErr, OnOk};
+ghost use Rattle.std.specs.Prelude.{◌≡◌, ◌≢◌, IfErr, IfOk, MatchOption, OnErr, OnOk};
 ghost use Rattle.asm_overlay.specs.Frames.{seen_through};
-ghost use Rattle.asm_state.specs.Listed.{by_value};
+ghost use Rattle.asm_state.specs.Listed.{IsListOf, by_value};
 ghost use Rattle.asm_state.specs.View.{value_at};
 ghost use Rattle.asm_storage.specs.Part.{IsFollowing};
 ghost use Rattle.asm_storage.specs.Storage.{AgentAt, machine_of};
 ghost use Rattle.asm_transaction.specs.Reading.{IsOf, IsUnseen, Shows};
-ghost use Rattle.asm_transaction.specs.Scanning.{HasScanned, IsListOf, IsScan, IsUntaken};
+ghost use Rattle.asm_transaction.specs.Scanning.{HasScanned, IsScan, IsUnlisted, IsUntaken};
 
 use crate::error::TransactionError;
 use crate::scanning::{note_scan, scan_for};
@@ -71,8 +71,8 @@ impl Transaction {
 
     /// Return the locations of `see_name` that aren't undef, each with its value, in ascending order.
     ///
-    /// It copies no value: the values are those of the state. `None` is the answer if a move is pushed, and to a text that
-    /// is no name of a function.
+    /// It copies no value: the values are those of the state. `None` is the answer only if a move is pushed, or to a text
+    /// that is no name of a function.
     ///
     /// # Errors
     ///
@@ -84,7 +84,8 @@ impl Transaction {
         state: &'a State,
         name: &str,
     ) -> Result<Option<Vec<(&'a Location, &'a Value)>>, TransactionError>
-        ensures found { IfOk result (λ found. IfSome found (λ list. IsListOf (λ P. (a : AgentAt A) →
+        ensures found { IfOk result (λ found. MatchOption found (IsUnlisted name.now self.now)
+            (λ list. IsListOf (λ P. (a : AgentAt A) →
             IsFollowing (machine_of A.meaning a.storage) a.account.seen state.now →
             IsOf A.meaning a self.now → IsScan A.meaning a self.now name.now P) (by_value list.items))) }
         ensures level { OnOk result (state.now.number ≡ self.now.number) }

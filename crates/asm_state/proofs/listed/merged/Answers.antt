@@ -1,7 +1,8 @@
 use Rattle.std.proofs.Common.{◌≡◌, ◌∷◌, ◌+◌, ◌++◌, [], Bool, cond, ap, append-nil, subst, sym, ◌∙◌}
 use Rattle.std.specs.Prelude.{All, drop}
 use Rattle.std.proofs.lemmas.List.{drop_all, drop_more}
-use Rattle.asm_state.specs.Listed.{IsListed, by_value, seen}
+use Rattle.asm_state.specs.Listed.{by_value}
+use Rattle.asm_state.specs.Merging.{IsListed, seen}
 use Rattle.asm_state.proofs.Listing.{listing_end, listing_more}
 use Rattle.asm_state.proofs.listed.merged.Goals.{then-not-starts_at+in_ok-push_seen, else-not-starts_at}
 use Rattle.asm_state.proofs.listed.merged.Goals as goal

@@ -1,5 +1,6 @@
 use Rattle.std.proofs.Common.{◌≡◌, ◌++◌, All, drop}
-use Rattle.asm_state.specs.Listed.{IsListed, by_value, listing}
+use Rattle.asm_state.specs.Listed.{by_value}
+use Rattle.asm_state.specs.Merging.{IsListed, listing}
 use Rattle.asm_state.proofs.listed.merged.Given as goal
 
 abbrev pub invariant-loop-at : goal.invariant-loop-at

@@ -1,5 +1,6 @@
 use Rattle.std.proofs.Common.{ap, sym, ◌∙◌, ◌++◌}
-use Rattle.asm_state.specs.Listed.{by_value, front}
+use Rattle.asm_state.specs.Listed.{by_value}
+use Rattle.asm_state.specs.Merging.{front}
 use Rattle.asm_state.proofs.Listing.{front_end, front_more, front_past}
 use Rattle.asm_state.proofs.listed.named.Goals as goal
 

@@ -1,5 +1,6 @@
 use Rattle.std.proofs.Common.{◌≡◌, ◌++◌}
-use Rattle.asm_state.specs.Listed.{by_value, front}
+use Rattle.asm_state.specs.Listed.{by_value}
+use Rattle.asm_state.specs.Merging.{front}
 use Rattle.asm_state.proofs.listed.named.Given as goal
 
 abbrev pub invariant-loop-at : goal.invariant-loop-at

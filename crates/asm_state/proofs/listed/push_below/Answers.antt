@@ -7,7 +7,8 @@ use Rattle.asm_element.specs.Place.{Place, location_cmp}
 use Rattle.asm_element.specs.Value.{undef}
 use Rattle.asm_element.specs.declared.value.Value.{Value}
 use Rattle.asm_state.specs.declared.entries.WrittenValue.{WrittenValue}
-use Rattle.asm_state.specs.Listed.{by_value, seen}
+use Rattle.asm_state.specs.Listed.{by_value}
+use Rattle.asm_state.specs.Merging.{seen}
 use Rattle.asm_state.proofs.Listing.{below_end, below_more, below_stop, from_end, from_more, from_stop, ge_not, not_ge}
 use Rattle.asm_state.proofs.listed.push_below.Goals as goal
 

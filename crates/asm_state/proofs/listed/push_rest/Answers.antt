@@ -6,7 +6,8 @@ use Rattle.asm_element.specs.Place.{Place}
 use Rattle.asm_element.specs.Value.{undef}
 use Rattle.asm_element.specs.declared.value.Value.{Value}
 use Rattle.asm_state.specs.declared.entries.WrittenValue.{WrittenValue}
-use Rattle.asm_state.specs.Listed.{by_value, seen}
+use Rattle.asm_state.specs.Listed.{by_value}
+use Rattle.asm_state.specs.Merging.{seen}
 use Rattle.asm_state.proofs.Listing.{all_end, all_more}
 use Rattle.asm_state.proofs.listed.push_rest.Goals as goal
 

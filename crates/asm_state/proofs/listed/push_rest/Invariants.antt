@@ -1,5 +1,6 @@
 use Rattle.std.proofs.Common.{◌≡◌, ◌++◌, ◌-◌, All, drop, length}
-use Rattle.asm_state.specs.Listed.{IsListed, by_value, seen_all}
+use Rattle.asm_state.specs.Listed.{by_value}
+use Rattle.asm_state.specs.Merging.{IsListed, seen_all}
 use Rattle.asm_state.proofs.listed.push_rest.Given as goal
 
 abbrev pub invariant-loop-next : goal.invariant-loop-next

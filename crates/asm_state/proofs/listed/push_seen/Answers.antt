@@ -1,7 +1,8 @@
 use Rattle.std.proofs.Common.{ap, sym, subst, ◌∙◌}
 use Rattle.std.specs.Prelude.{All}
 use Rattle.std.proofs.lemmas.List.Elements.{All-push}
-use Rattle.asm_state.specs.Listed.{IsListed, by_value}
+use Rattle.asm_state.specs.Listed.{by_value}
+use Rattle.asm_state.specs.Merging.{IsListed}
 use Rattle.asm_state.proofs.Listing.{values_more}
 use Rattle.asm_state.proofs.listed.push_seen.Goals as goal
 

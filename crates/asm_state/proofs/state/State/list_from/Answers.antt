@@ -4,7 +4,8 @@ use Rattle.std.specs.FinMap as finite
 use Rattle.std.specs.declared.ops.Bound.TheVariants.{Included, Unbounded}
 use Rattle.asm_element.specs.Place.{location_cmp}
 use Rattle.asm_update.specs.State.{State}
-use Rattle.asm_state.specs.Listed.{by_value, front, listing}
+use Rattle.asm_state.specs.Listed.{by_value}
+use Rattle.asm_state.specs.Merging.{front, listing}
 use Rattle.asm_state.specs.View.{Entries, StateView}
 use Rattle.asm_state.proofs.Listing.{Seen, is_listing}
 use Rattle.asm_state.proofs.state.State.list_from.Goals as goal
