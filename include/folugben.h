@@ -59,9 +59,9 @@
  *    with ASM_MEMORY too. asm_audit takes bytes with each code except ASM_TAKEN. After asm_run_end
  *    with another code than ASM_DONE, ASM_EMPTY and ASM_ORDER a run reads nothing more. A push or an
  *    extension that is refused (ASM_CLASH, ASM_MANY, ASM_LONG_MOVE, ASM_LARGE, ASM_SMALL) leaves the
- *    pushed moves unchanged, and may track locations. ASM_MANY of asm_commit_recorded leaves both
- *    slots unchanged. After any other call, each code except ASM_DONE means that the slots are
- *    unchanged.
+ *    pushed moves unchanged, and may track locations. ASM_MANY of asm_commit_recorded and
+ *    ASM_LONG_LINE of each call on an agent leave the slots unchanged. After any other call, each
+ *    code except ASM_DONE means that the slots are unchanged.
  *  - A number that a call writes is 0 unless its code is said to set it. `*written` is set with
  *    ASM_DONE and with each code that is said to come with a text, to the length of the text, and
  *    with ASM_SMALL.
@@ -185,7 +185,8 @@ enum asm_code {
     ASM_NOT_FULL = 32,   /* the agent's own state is at fewer moves than its storage has room for:
                             asm_go_on */
     ASM_MANY_CALLS = 33, /* more calls than the 4,294,967,295 that a journal holds: asm_close */
-    ASM_LONG_LINE = 34,  /* a line of more than 1,073,741,824 bytes: asm_audit */
+    ASM_LONG_LINE = 34,  /* a line of more than 1,073,741,824 bytes: asm_audit; a journal would have
+                            one */
     ASM_LONG_MOVE = 35,  /* a move of more than 4,096 instructions */
     ASM_NAME = 36,       /* not the name of a segment: asm_run_name */
     ASM_ORDER = 37,      /* another call on the run comes next */
@@ -238,7 +239,7 @@ struct asm_run {
 };
 
 /* Opens a storage with the state [PAIR, ..], for 1 to 1,048,576 moves, in an empty slot.
- * ASM_TAKEN, ASM_NOT_JSON, ASM_SHAPE, ASM_CAPACITY, ASM_MEMORY. */
+ * ASM_TAKEN, ASM_NOT_JSON, ASM_SHAPE, ASM_CAPACITY, ASM_LONG_LINE, ASM_MEMORY. */
 FOLUGBEN_NODISCARD int32_t asm_open(const uint8_t *init, size_t len, uint32_t capacity,
     struct asm_storage *storage);
 
@@ -256,8 +257,9 @@ FOLUGBEN_NODISCARD int32_t asm_agents(struct asm_storage *storage, struct asm_ag
     size_t count);
 
 /* Reads the locations [LOC, ..], at most 256. The answer is the text {"number":N,"values":[VALUE,
- * ..]}: their values after the first N moves, which asm_answer writes. ASM_EMPTY, ASM_NOT_JSON,
- * ASM_SHAPE, ASM_MANY, ASM_MEMORY. */
+ * ..]}: their values after the first N moves, which asm_answer writes. ASM_LONG_LINE: with the
+ * values in the agent's own state, before it polls. ASM_EMPTY, ASM_NOT_JSON, ASM_SHAPE, ASM_MANY,
+ * ASM_MEMORY. */
 FOLUGBEN_NODISCARD int32_t asm_read(struct asm_agent *agent, const uint8_t *locations, size_t len);
 
 /* The numbers of a fire; each is 0 unless its code is returned. */
@@ -274,7 +276,8 @@ typedef struct asm_numbers {
  * ASM_AHEAD, before the agent polls and before ASM_MANY. After asm_next numbers begin again at 0.
  * ASM_DONE: fired. ASM_STALE, ASM_CLASH and ASM_FULL are answers too: asm_answer writes
  * {"fired":N}, {"stale":LOC}, {"clash":[LOC,CAUSE]} or "full". ASM_BUSY, ASM_EMPTY, ASM_NOT_JSON,
- * ASM_SHAPE, ASM_AHEAD, ASM_MANY, ASM_MEMORY: no answer, and nothing was fired. */
+ * ASM_SHAPE, ASM_AHEAD, ASM_LONG_LINE, ASM_MANY, ASM_MEMORY: no answer, and nothing was fired.
+ * ASM_LONG_LINE: with the longest reply that it may have, before the agent polls. */
 FOLUGBEN_NODISCARD int32_t asm_try_fire(struct asm_agent *agent, const uint8_t *call, size_t len,
     asm_numbers *numbers);
 
@@ -284,8 +287,9 @@ FOLUGBEN_NODISCARD int32_t asm_try_fire(struct asm_agent *agent, const uint8_t *
  * ASM_STALE too, and the receipt names the smallest such location of one scan, behind the others;
  * otherwise the journal doesn't record scans. Named locations and scans are at most 256 together
  * (ASM_MANY), each at a number that the agent has seen (ASM_AHEAD). ASM_NOT_JSON, ASM_SHAPE: the
- * call, or else the scans. All else is as of asm_try_fire. A scan costs a walk of the locations of
- * this name that moves wrote; with a text that is no name of a function, of all that they wrote. */
+ * call, or else the scans. ASM_LONG_LINE is without the location that a scan adds. All else is as of
+ * asm_try_fire. A scan costs a walk of the locations of this name that moves wrote; with a text that
+ * is no name of a function, of all that they wrote. */
 FOLUGBEN_NODISCARD int32_t asm_try_fire_over(struct asm_agent *agent, const uint8_t *call,
     size_t call_len, const uint8_t *scans, size_t scans_len, asm_numbers *numbers);
 
@@ -466,7 +470,8 @@ FOLUGBEN_NODISCARD int32_t asm_step_stands(struct asm_agent *agent, struct asm_s
  * took what the move removes; begin the step again, as after ASM_STALE. ASM_STALE comes too if a
  * location of a scanned function was written since: the receipt names the smallest of these too.
  * ASM_MANY: the locations that would be named and the functions that were scanned are more than
- * 256. It polls, so it answers neither ASM_MOVED nor ASM_AHEAD. */
+ * 256. ASM_LONG_LINE is as of asm_try_fire_over. It polls, so it answers neither ASM_MOVED nor
+ * ASM_AHEAD. */
 FOLUGBEN_NODISCARD int32_t asm_commit(struct asm_agent *agent, struct asm_step *step,
     asm_numbers *numbers);
 
@@ -476,7 +481,8 @@ FOLUGBEN_NODISCARD int32_t asm_commit(struct asm_agent *agent, struct asm_step *
  * so asm_check tests these too; it is at the number of moves that the agent has then seen. If one
  * was written, or the fire names no location, there is no read. The functions that were scanned
  * aren't in it. Codes and numbers are those of asm_commit. ASM_MANY comes before anything else, and
- * then nothing has changed. After ASM_BUSY and ASM_MEMORY the receipt of the read may be there; it
+ * then ASM_LONG_LINE: also of the read, with the values in the agent's own state. With both nothing
+ * has changed. After ASM_BUSY and ASM_MEMORY the receipt of the read may be there; it
  * is right, and the same call may be made again. */
 FOLUGBEN_NODISCARD int32_t asm_commit_recorded(struct asm_agent *agent, struct asm_step *step,
     asm_numbers *numbers);
@@ -742,7 +748,7 @@ FOLUGBEN_NODISCARD int32_t asm_journal(struct asm_storage *storage, uint8_t *out
  * numbers begin at 0: keep no number of a read before, as it is taken for one of this storage once
  * so many moves were seen. The journals of both, one after the other, are one run; moves that were
  * fired after asm_close are in neither. ASM_TAKEN (`next`), ASM_EMPTY (`storage`), ASM_NO_JOURNAL,
- * ASM_CAPACITY, ASM_MEMORY. */
+ * ASM_CAPACITY, ASM_LONG_LINE (the first line of its journal), ASM_MEMORY. */
 FOLUGBEN_NODISCARD int32_t asm_next(struct asm_storage *storage, uint32_t capacity,
     struct asm_storage *next);
 
@@ -751,8 +757,8 @@ FOLUGBEN_NODISCARD int32_t asm_next(struct asm_storage *storage, uint32_t capaci
  * to the end (asm_follow, asm_begin). No journal is needed, and no other agent waits: each may read
  * on, be returned and be closed into the first storage's journal later. The journals of both, one
  * after the other, are one run. Numbers begin at 0, as after asm_next. ASM_TAKEN (`next`),
- * ASM_EMPTY (`agent`), ASM_NOT_FULL, ASM_CAPACITY, ASM_MEMORY; the first of these that holds is
- * returned. */
+ * ASM_EMPTY (`agent`), ASM_NOT_FULL, ASM_CAPACITY, ASM_LONG_LINE (the first line of its journal),
+ * ASM_MEMORY; the first of these that holds is returned. */
 FOLUGBEN_NODISCARD int32_t asm_go_on(struct asm_agent *agent, uint32_t capacity,
     struct asm_storage *next);
 

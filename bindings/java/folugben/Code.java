@@ -72,7 +72,7 @@ public enum Code {
     NOT_FULL(32),
     /** There are more calls than the 4,294,967,295 that a journal holds. */
     MANY_CALLS(33),
-    /** A line has more bytes than an audit reads. */
+    /** A line has more bytes than an audit reads, or would have. */
     LONG_LINE(34),
     /** A move has more than 4,096 instructions. */
     LONG_MOVE(35),

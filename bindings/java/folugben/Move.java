@@ -38,8 +38,6 @@ public final class Move implements AutoCloseable, Iterable<Instruction> {
     /** Its slot, and the lock of the calls on it, which is taken after an agent's. */
     final Slot slot = new Slot();
 
-    /** About how many bytes its instructions have, for the count of a step. */
-    long bytes;
     private boolean isClosed;
     /** Whether a thread was stopped or out of stack, so that the effect isn't known. */
     boolean isCutOff;
@@ -122,7 +120,6 @@ public final class Move implements AutoCloseable, Iterable<Instruction> {
 
     private void drop() {
         Calls.asm_free(slot.at);
-        bytes = 0;
         isCutOff = false;
     }
 
@@ -286,7 +283,6 @@ public final class Move implements AutoCloseable, Iterable<Instruction> {
                 other.expectOpen();
                 isCutOff = true;
                 Code code = Code.of(Calls.asm_unite(slot.at, other.slot.at));
-                bytes += other.bytes;
                 isCutOff = false;
                 ManyException.expectMove(code, "both moves together");
                 FolugbenException.expect(code);
@@ -325,7 +321,7 @@ public final class Move implements AutoCloseable, Iterable<Instruction> {
             expectOpen();
             synchronized (at.slot) {
                 isCutOff = true;
-                took(at, 0, Code.of(Calls.asm_instruct(
+                took(at, Code.of(Calls.asm_instruct(
                         slot.at, at.slot.at, verb, kind, number, 0, 0, (int) amount)));
             }
         }
@@ -343,7 +339,7 @@ public final class Move implements AutoCloseable, Iterable<Instruction> {
             expectOpen();
             synchronized (at.slot) {
                 isCutOff = true;
-                took(at, bytes.length, Code.of(Calls.asm_instruct(slot.at, at.slot.at, verb, kind, 0, bytes,
+                took(at, Code.of(Calls.asm_instruct(slot.at, at.slot.at, verb, kind, 0, bytes,
                         bytes.length, (int) amount)));
             }
         }
@@ -359,9 +355,8 @@ public final class Move implements AutoCloseable, Iterable<Instruction> {
         return code;
     }
 
-    /** Counts the bytes of the instruction, and throws if it wasn't gathered. */
-    private void took(PreparedLocation at, int operand, Code code) {
-        this.bytes += at.length() + operand;
+    /** Throws if the instruction wasn't gathered. */
+    private void took(PreparedLocation at, Code code) {
         isCutOff = false;
         ManyException.expectMove(code, "the move");
         at.expect(code);

@@ -63,7 +63,6 @@ final class Part implements Run.RunPart {
     synchronized void openNext(Agent agent) {
         if (isOver)
             return;
-        Texts.Lines.expectState(Texts.Lines.bytes(agent.state().pairs()));
         open(agent.goOn(capacity), before + capacity);
     }
 

@@ -222,22 +222,12 @@ final class PartWriter {
         folder.keep(kept);
     }
 
-    /**
-     * Returns how many events a journal has.
-     *
-     * <p>They are the lines after its header, of which none is too long.
-     */
+    /** Returns how many events a journal has, which are the lines after its header. */
     static long events(ByteBuffer journal) {
         long lines = 0;
-        int begin = 0;
-        for (int at = 0; at < journal.limit(); at++) {
-            if (journal.get(at) != '\n')
-                continue;
-            if (at - begin > Texts.Lines.LIMIT)
-                throw TooLongException.line("what was done", at - begin);
-            begin = at + 1;
-            lines++;
-        }
+        for (int at = 0; at < journal.limit(); at++)
+            if (journal.get(at) == '\n')
+                lines++;
         return lines - 1;
     }
 

@@ -29,11 +29,6 @@ public final class PreparedLocation implements AutoCloseable {
         text = location;
     }
 
-    /** Returns how long its text is. */
-    int length() {
-        return text.length();
-    }
-
     /** Throws if the code of a call on it and on other slots isn't DONE. */
     void expect(Code code) {
         if (code == Code.EMPTY)

@@ -120,7 +120,6 @@ final class Replica {
     private EndedSegment end() {
         Era ended = era;
         String state = state().pairs();
-        Texts.Lines.expectState(Texts.Lines.bytes(state));
         Era next = new Era(state, ended.number + 1, ended.base + fired, moves);
         EndedSegment now = closeSegment();
         segment = now.segment();

@@ -128,14 +128,13 @@ public final class RunAgent implements Actor {
      *         over: read again; as a {@link StaleException}, {@link BusyException} or {@link
      *         ClashException}; as a {@link ManyException}; AHEAD if a number is above that of the
      *         moves that the agent has seen
-     * @throws TooLongException if the move's line would be longer than an audit reads
+     * @throws TooLongException if the move's line could be longer than an audit reads
      * @throws BrokenException if a part of the run couldn't be written
      */
     public long fire(List<? extends Instruction> instructions, List<Named> reads) {
         Turns.Player.call(this);
         List<Named> named = Texts.Copies.of(reads, "reads");
         List<Instruction> move = Texts.Copies.of(instructions, "instructions");
-        Texts.Lines.expectCall(move, named);
         return inOpenPart(agent -> {
             if (part.endIfFull((int) agent.seen()))
                 return null;

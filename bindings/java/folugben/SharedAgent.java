@@ -224,14 +224,13 @@ public final class SharedAgent implements Actor {
         /**
          * Commits as a step of a storage does; returns once the answer is durable.
          *
-         * @throws TooLongException if the move's line would be longer than an audit reads
+         * @throws TooLongException if the move's line could be longer than an audit reads
          * @throws BrokenException if the run has ended: whether the move was fired may not be known
          * @throws UnknownException if whether the move was fired isn't known
          */
         @Override
         public Agent.Reply tryCommit() {
             String call = offerText();
-            Texts.Lines.expectCall(Texts.utf8(call, "call"));
             Agent.Reply reply = shared.fire(era, call, scans());
             if (reply.isFired()) {
                 fired = reply.move();

@@ -90,7 +90,6 @@ public final class SharedRun implements AutoCloseable {
     private static byte[] opening(String init, int moves) {
         try (Storage storage = new Storage(init, moves)) {
             ByteBuffer journal = storage.closeJournal(new Room());
-            Texts.Lines.expectState(journal.remaining());
             byte[] text = new byte[journal.remaining()];
             journal.get(text);
             return text;

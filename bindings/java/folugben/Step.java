@@ -352,7 +352,6 @@ public sealed class Step extends StepCalls implements AutoCloseable permits Shar
     public void pop() {
         Turns.Player.call(this);
         synchronized (agent.slot) {
-            namesMore = true;
             FolugbenException.expect(Code.of(Calls.asm_pop(slot().at)));
         }
     }
@@ -464,8 +463,8 @@ public sealed class Step extends StepCalls implements AutoCloseable permits Shar
      *
      * @throws FolugbenException MANY if more than 256 locations would be named and functions were
      *         scanned
-     * @throws TooLongException on a run, if the line of the move, or of the read that is recorded,
-     *         would be longer than an audit reads
+     * @throws TooLongException if the line of the move, or of the read that is recorded, could be
+     *         longer than an audit reads
      */
     public Agent.Reply tryCommit() {
         return commits();

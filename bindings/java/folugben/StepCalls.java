@@ -13,15 +13,10 @@ abstract sealed class StepCalls permits Step {
     final Room room;
     final int number;
     final long before;
-    /** How many bytes it was passed and returned, as a limit of its lines in a journal. */
-    long size;
-    private boolean isPushed;
     /** The thread that began it. */
     private final Thread thread = Thread.currentThread();
     /** The number of the move that it fired, or 0. */
     volatile long fired;
-    /** Whether a commit may name locations whose values weren't returned. */
-    boolean namesMore;
     /** The step's slot, until the step is over: the agent then uses it for another. */
     final Slot.AgentSlot.StepSlot slot;
     void end() {
@@ -72,12 +67,10 @@ abstract sealed class StepCalls permits Step {
     Calls.Result resultOf(Call call, byte[] text) {
         synchronized (agent.slot) {
             long step = slot().at;
-            size += text.length;
             Calls.Result result = room.resultOf(text,
                     (at, out, length, written)
                             -> call.call(
                                     agent.slot.at, step, at, text.length, out, length, written));
-            size += result.text().length();
             expectUnmoved(result.code());
             return result;
         }
@@ -103,7 +96,6 @@ abstract sealed class StepCalls permits Step {
             ManyException.expectPlaces(code);
             location.expect(expectUnmoved(code));
         }
-        size += room.written();
         player.reads(location);
         player.observe(room);
     }
@@ -136,8 +128,6 @@ abstract sealed class StepCalls permits Step {
             if (code != Code.SHAPE)
                 location.expect(expectUnmoved(code));
         }
-        size += location.length() + element.length;
-        namesMore = true;
         player.reads(location);
         if (code == Code.SHAPE) {
             take(location, player);
@@ -171,23 +161,12 @@ abstract sealed class StepCalls permits Step {
         Turns.Player player = Turns.Player.call(this);
         Calls.Result result;
         synchronized (agent.slot) {
-            result = pushed(resultOf(call, text));
+            result = resultOf(call, text);
         }
         FolugbenException.expectNoObjection(result);
         ManyException.expectMove(result.code(), "the one move of all that are pushed");
         FolugbenException.expectMove(result.code(), move, "");
         player.pushes(self());
-    }
-    /**
-     * Notes what a push returned, with the lock.
-     *
-     * <p>If it is refused, or another move is pushed already, the commit may name locations that
-     * have partial updates.
-     */
-    private Calls.Result pushed(Calls.Result result) {
-        namesMore |= result.code() != Code.DONE || isPushed;
-        isPushed = true;
-        return result;
     }
     /** A call on an agent, a step and a move that writes a text. */
     interface MoveCall {
@@ -202,12 +181,11 @@ abstract sealed class StepCalls permits Step {
             long step = slot().at;
             synchronized (move.slot) {
                 move.expectOpen();
-                size += move.bytes;
-                result = pushed(move.size() == 0
-                                ? resultOf(textCall, NO_INSTRUCTIONS)
-                                : room.resultOf((text, out, length, written)
-                                                    -> call.call(agent.slot.at, step, move.slot.at,
-                                                            out, length, written)));
+                result = move.size() == 0
+                        ? resultOf(textCall, NO_INSTRUCTIONS)
+                        : room.resultOf((text, out, length, written)
+                                            -> call.call(agent.slot.at, step, move.slot.at, out,
+                                                    length, written));
             }
             expectUnmoved(result.code());
         }
@@ -272,28 +250,11 @@ abstract sealed class StepCalls permits Step {
         }
     }
 
-    /** Throws if the lines of a commit are too long for a run's journal; with the lock. */
-    private void expectLines() {
-        String offer = offered();
-        Texts.Lines.expectCall(Texts.utf8(offer, "call"));
-        if (!agent.isRecording())
-            return;
-        List<Named> reads = JsonReader.offer(offer).reads();
-        byte[] places = Texts.utf8(
-                JsonWriter.locations(reads.stream().map(Named::location).toList()), "locations");
-        Calls.Result result = agent.slot.peek(places);
-        agent.expect(result.code());
-        Texts.Lines.expectRead(places.length, result.text());
-    }
-
     /** Returns the reply to a commit. */
     final Actor.Reply commits() {
         Turns.Player player = Turns.Player.poll(this);
         player.fires(self());
         synchronized (agent.slot) {
-            boolean mayBeLong = size > Texts.Lines.SHORT || namesMore && agent.isRecording();
-            if (agent.isOfRun() && mayBeLong && !isOver())
-                expectLines();
             Actor.Reply reply = agent.reply(committed(), true);
             fired = reply.move();
             player.fired(reply);
@@ -328,7 +289,6 @@ abstract sealed class StepCalls permits Step {
                     -> call.call(agent.slot.at, step, at, text.length, room.numbers()));
             ManyException.expectPlaces(expectUnmoved(code));
             FolugbenException.expect(code);
-            size += text.length;
             long found = read.getAsLong();
             player.stepScans(name);
             player.observe("" + found);
@@ -343,8 +303,6 @@ abstract sealed class StepCalls permits Step {
         synchronized (agent.slot) {
             long step = slot().at;
             synchronized (into.slot) {
-                into.bytes = size;
-                namesMore = true;
                 Code code = expectUnmoved(into.takePopped(step));
                 ManyException.expectMove(code, "the one move of those that are popped");
                 FolugbenException.expect(code);

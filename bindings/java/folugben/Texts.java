@@ -7,7 +7,6 @@ import java.util.List;
 import java.util.Map;
 import java.util.Objects;
 import java.util.stream.Collectors;
-import java.util.stream.Stream;
 
 /** Checks of a caller's texts before the library gets them. */
 final class Texts {
@@ -133,63 +132,6 @@ final class Texts {
         int end = at;
         while (end < text.length() && " \t\n\r,:[]{}\"".indexOf(text.charAt(end)) < 0) end++;
         return end > at ? end : -1;
-    }
-
-    /** How long the lines of a run's journals may be, so that an audit reads each of them. */
-    static final class Lines {
-        /**
-         * How many bytes a line may have without its line feed: what an audit reads.
-         *
-         * <p>No longer line is written.
-         */
-        static final int LIMIT = Integer.getInteger("folugben.line", 1_073_741_824);
-        /** What a line has at most besides its call and the location of its reply, or its state. */
-        private static final int ROOM = 120;
-
-        /** No line of a call of fewer bytes is too long, whatever its characters are escaped to. */
-        static final int SHORT = LIMIT / 16;
-
-        private Lines() {}
-
-        /** Throws if the line of a fire may be too long, whatever its reply is. */
-        static void expectCall(byte[] call) {
-            if (2L * call.length + ROOM <= LIMIT)
-                return;
-            Step.Offer offer = JsonReader.offer(new String(call, StandardCharsets.UTF_8));
-            long longest = Stream.concat(offer.fire().stream().map(Instruction::location),
-                                         offer.reads().stream().map(Named::location))
-                                   .mapToLong(it -> bytes(it.json()))
-                                   .max()
-                                   .orElse(0);
-            long length = call.length + longest + ROOM;
-            if (length > LIMIT)
-                throw TooLongException.line("the move", length);
-        }
-
-        /** Throws so for a move that depends on these reads. */
-        static void expectCall(List<Instruction> move, List<Named> reads) {
-            String call = "{\"fire\":" + JsonWriter.move(move, "instructions") + ",\"reads\":"
-                    + JsonWriter.reads(reads) + "}";
-            if (call.length() > SHORT)
-                expectCall(Texts.utf8(call, "call"));
-        }
-
-        /** Throws if the line of a read is too long, with locations of so many bytes. */
-        static void expectRead(long locations, String answer) {
-            long length = locations + bytes(answer) + ROOM;
-            if (length > LIMIT)
-                throw TooLongException.line("the read", length);
-        }
-
-        /** Throws if a journal can't open with a state whose text has so many bytes. */
-        static void expectState(long length) {
-            if (length + ROOM > LIMIT)
-                throw TooLongException.line("the state", length + ROOM);
-        }
-
-        static long bytes(String text) {
-            return text.getBytes(StandardCharsets.UTF_8).length;
-        }
     }
 
     /** How objects are printed. */

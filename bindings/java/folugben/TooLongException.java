@@ -1,7 +1,5 @@
 package folugben;
 
-import java.util.Locale;
-
 /**
  * Reports that a line or an output would be too long; nothing was done.
  *
@@ -14,12 +12,5 @@ public final class TooLongException extends FolugbenException {
 
     TooLongException(String detail) {
         super(Code.LONG_LINE, 0, detail, "", null);
-    }
-
-    /** Returns that of a line of so many bytes, which something would make. */
-    static TooLongException line(String what, long length) {
-        return new TooLongException(String.format(Locale.ROOT,
-                "%s would make a line of about %,d bytes, and an audit reads %,d", what, length,
-                Texts.Lines.LIMIT));
     }
 }

@@ -23,7 +23,7 @@ static int32_t join(Step *self, Room *room)
         WITH_ROOM(code, room, asm_extend_move(SLOT(self->agent), SLOT(self), WAITING(self), ROOM(room)));
     if (code == ASM_DONE && self->waiting.slot.full) {
         drop_waiting(self);
-        grow_by_push(self, 1);
+        self->is_pushed = 1;
     }
     return code;
 }
@@ -120,7 +120,7 @@ static int begin_waiting(Step *self, Change *its, const char *at, size_t len)
     } else {
         drop_waiting(self);
         if (is_pushed)
-            grow_by_push(self, 1);
+            self->is_pushed = 1;
         else if (!is_put)
             refuse_change(self->holder.core, its);
         else if (code != ASM_DONE)
@@ -137,7 +137,6 @@ int add_to(Step *self, Change *its)
     const char *at = text_of_place(&its->place, &len);
     PyObject *was = self->waiting_at;
     int is_next = was && self->waiting_verb == its->verb && (size_t)PyBytes_Size(was) == len && !memcmp(PyBytes_AsString(was), at, len);
-    self->size += change_size(its);
     if (is_next && change_put(its, WAITING(self)) == ASM_DONE)
         return 0;
     if (is_next) {

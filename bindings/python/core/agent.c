@@ -347,7 +347,6 @@ static PyMethodDef methods[] = {
         "Raises:\n"
         "    Error: its own state has fewer moves; the code is NOT_FULL."},
     {"_fire", (PyCFunction)agent_fire_texts, METH_VARARGS, NULL},
-    {"_peek_length", (PyCFunction)agent_peek_length, METH_O, NULL},
     {"_state_text", (PyCFunction)agent_state_text, METH_NOARGS, NULL},
     {"_check_out", (PyCFunction)agent_check_out, METH_NOARGS, NULL},
     {"_try_return", (PyCFunction)agent_try_return, METH_O, NULL},

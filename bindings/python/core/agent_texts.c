@@ -189,7 +189,7 @@ static PyObject *peek_at(Agent *self, Location *at)
     return one ? Py_BuildValue("IN", (unsigned)number, one) : NULL;
 }
 
-static PyObject *peek(Agent *self, PyObject *places, int is_length)
+static PyObject *peek(Agent *self, PyObject *places)
 {
     Text text;
     Room room;
@@ -204,7 +204,7 @@ static PyObject *peek(Agent *self, PyObject *places, int is_length)
         if (code != ASM_DONE)
             refuse_text(self, code, ASM_FORM_LOCATIONS, &text);
         else
-            result = is_length ? PyLong_FromSize_t(text.len + room.written) : numbered_values(self->holder.core, &room);
+            result = numbered_values(self->holder.core, &room);
     }
     room_end(&room);
     text_end(&text);
@@ -213,13 +213,7 @@ static PyObject *peek(Agent *self, PyObject *places, int is_length)
 
 PyObject *agent_peek(Agent *self, PyObject *places)
 {
-    return is_location(self->holder.core, places) ? peek_at(self, (Location *)places) : peek(self, places, 0);
-}
-
-/* Counts the bytes of the texts of the places and of their values in `peek`. */
-PyObject *agent_peek_length(Agent *self, PyObject *places)
-{
-    return peek(self, places, 1);
+    return is_location(self->holder.core, places) ? peek_at(self, (Location *)places) : peek(self, places);
 }
 
 static PyObject *state(Agent *self, int is_text)

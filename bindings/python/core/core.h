@@ -27,7 +27,7 @@
 /* An agent that is this many moves behind, and a text of this many bytes, release the interpreter's lock. */
 enum { FAR = 1024, LONG_TEXT = 16384 };
 /* How many agents a storage makes, and how many moves it has room for; how long a line of a journal may be. */
-enum { AGENTS = 256, CAPACITY = 1048576, LINE_LIMIT = 1073741824 };
+enum { AGENTS = 256, CAPACITY = 1048576 };
 
 typedef struct {
     PyTypeObject *storage, *agent, *step, *location, *move, *audit, *run;
@@ -91,9 +91,7 @@ struct Step {
     Agent *agent;
     uint32_t number, fired;
     unsigned long thread; /* that began it */
-    uint64_t size; /* about how many bytes of text it has read and pushed, and will record */
     char is_fired, is_tried, is_pushed, is_open;
-    char is_partial; /* a pushed move may have partial updates */
     char is_refusing; /* the error of additions that wait is being made */
     struct asm_move waiting; /* additions in a row that have yet to join the move that was pushed last */
     int waiting_verb;
@@ -107,7 +105,6 @@ typedef struct {
 
 typedef struct {
     Holder holder;
-    uint64_t size;
     char is_freed;
 } Move;
 
@@ -209,7 +206,6 @@ typedef struct {
 int change_begin(Core *core, Change *its, PyObject *const *words, Py_ssize_t count, int verb);
 int32_t change_put(Change *its, struct asm_move *move);
 int32_t change_push(Change *its, Step *step, Room *room);
-uint64_t change_size(Change *its);
 PyObject *refuse_change(Core *core, Change *its);
 void change_end(Change *its);
 
@@ -271,7 +267,6 @@ PyObject *agent_answer(Agent *self, PyObject *none);
 PyObject *agent_learn(Agent *self, PyObject *other);
 PyObject *agent_follow(Agent *self, PyObject *none);
 PyObject *agent_peek(Agent *self, PyObject *places);
-PyObject *agent_peek_length(Agent *self, PyObject *places);
 PyObject *agent_state(Agent *self, PyObject *none);
 PyObject *agent_state_text(Agent *self, PyObject *none);
 PyObject *agent_scan(Agent *self, PyObject *name);
@@ -279,7 +274,6 @@ PyObject *agent_stands(Agent *self, PyObject *reads);
 PyObject *agent_go_on(Agent *self, PyObject *words, PyObject *named);
 
 /* step.c, step_values.c and waiting.c */
-void grow_by_push(Step *self, int is_partial);
 PyObject *refuse_push(Step *self, int32_t code, const char *move, size_t len, Room *room);
 PyObject *refuse_step(Step *self, int32_t code);
 PyObject *step_get(Step *self, PyObject *it);

@@ -230,11 +230,6 @@ int32_t change_push(Change *its, Step *step, Room *room)
     return code;
 }
 
-uint64_t change_size(Change *its)
-{
-    return its->len + place_len(&its->place);
-}
-
 /* Raises why it was not appended. */
 PyObject *refuse_change(Core *core, Change *its)
 {
@@ -259,10 +254,8 @@ static PyObject *instruct(Move *self, PyObject *const *words, Py_ssize_t count, 
             refuse(core, ASM_EMPTY, "freed_object", "(s)", "move");
         else if (ODD(change_put(&its, SLOT(self)) != ASM_DONE))
             refuse_change(core, &its);
-        else {
-            self->size += change_size(&its);
+        else
             result = Py_NewRef((PyObject *)self);
-        }
     }
     change_end(&its);
     return result;
@@ -332,7 +325,6 @@ static PyObject *unite(Move *self, PyObject *it)
     int32_t code = IS_FULL(other) ? asm_unite(SLOT(self), SLOT(other)) : ASM_DONE;
     if (ODD(code != ASM_DONE))
         return refuse(core, code, "unite", "(inn)", (int)code, move_len(self), move_len(other));
-    self->size += other->size;
     return Py_NewRef((PyObject *)self);
 }
 
@@ -353,7 +345,6 @@ static PyObject *move_or(PyObject *one, PyObject *two)
 static void drop(Move *self)
 {
     asm_free(SLOT(self));
-    self->size = 0;
 }
 
 static PyObject *move_clear(Move *self, PyObject *Py_UNUSED(none))

@@ -335,7 +335,6 @@ static PyMemberDef members[] = {
     {"__weaklistoffset__", T_PYSSIZET, offsetof(Holder, weak), READONLY, NULL},
     {"_thread", T_ULONG, offsetof(Step, thread), READONLY, NULL},
     {"_own_number", T_UINT, offsetof(Step, number), READONLY, NULL},
-    {"_size", T_ULONGLONG, offsetof(Step, size), READONLY, NULL},
     {"_is_tried", T_BOOL, offsetof(Step, is_tried), 0, NULL},
     {"_is_pushed", T_BOOL, offsetof(Step, is_pushed), READONLY, NULL},
     {0},

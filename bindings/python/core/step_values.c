@@ -13,27 +13,6 @@ static int32_t call_by_text(Step *self, TextCall call, const uint8_t *text, size
     return code;
 }
 
-/* Counts a text that is read with its place: a commit may record it. */
-static void grow_by_read(Step *self, size_t place, const Room *room)
-{
-    self->size += place + (self->agent->storage->records ? room->written : 0);
-}
-
-/* The fire may now name locations whose values are unknown. */
-static void grow_by_name(Step *self)
-{
-    self->size += self->agent->storage->records ? LINE_LIMIT : 0;
-}
-
-/* Called after a push: if a move before it has partial updates, the fire may name what both write. */
-void grow_by_push(Step *self, int is_partial)
-{
-    self->is_pushed = 1;
-    if (self->is_partial)
-        grow_by_name(self);
-    self->is_partial |= is_partial;
-}
-
 static PyObject *values_of(Step *self, TextCall call, PyObject *places)
 {
     Core *core = self->holder.core;
@@ -46,7 +25,6 @@ static PyObject *values_of(Step *self, TextCall call, PyObject *places)
     room_begin(&room);
     if (!UNREADY(&self->agent->holder) && !settle(self)) {
         int32_t code = call_by_text(self, call, BYTES(&text), &room);
-        grow_by_read(self, text.len, &room);
         if (code == ASM_DONE)
             values = read_values(core, &room, &number);
         else if (code == ASM_EMPTY || code == ASM_MOVED)
@@ -76,7 +54,6 @@ PyObject *step_at(Step *self, PyObject *place)
         int is_placed = code == ASM_DONE;
         if (is_placed)
             WITH_ROOM(code, &room, asm_get_at(SLOT(agent), SLOT(self), AT(&at), &value, ROOM(&room)));
-        grow_by_read(self, at.prepared ? (size_t)PyBytes_Size(at.prepared->text) : at.text.len, &room);
         if (!ODD(code != ASM_DONE))
             one = value_of(core, &value, &room);
         else if (!is_placed || (code == ASM_EMPTY && IS_FULL(self) && IS_FULL(agent)))
@@ -135,8 +112,6 @@ static int64_t count_member(Step *self, PyObject *const *words, Py_ssize_t given
         its.is_placed = code == ASM_DONE;
         if (its.is_placed)
             code = asm_count_of(SLOT(self->agent), SLOT(self), AT(&its.place), its.kind, its.number, its.at, its.len, &count);
-        self->size += change_size(&its);
-        grow_by_name(self);
         if (ODD(code != ASM_DONE))
             refuse_members(self, &its, code);
         else
@@ -170,8 +145,6 @@ PyObject *step_size(Step *self, PyObject *place)
         its.is_placed = code == ASM_DONE;
         if (its.is_placed)
             code = asm_size(SLOT(self->agent), SLOT(self), AT(&its.place), &size);
-        self->size += change_size(&its);
-        grow_by_name(self);
         result = ODD(code != ASM_DONE) ? refuse_members(self, &its, code) : PyLong_FromUnsignedLongLong(size);
     }
     place_end(&its.place);
@@ -227,7 +200,6 @@ PyObject *refuse_push(Step *self, int32_t code, const char *move, size_t len, Ro
 {
     if (code == ASM_EMPTY || code == ASM_MOVED)
         return refuse_step(self, code);
-    grow_by_name(self);
     return refuse(self->holder.core, code, "push", "(iy#y#O)", (int)code, move, (Py_ssize_t)len, room->at,
         (Py_ssize_t)(code == ASM_CLASH || code == ASM_LARGE ? room->written : 0), (PyObject *)self);
 }
@@ -243,10 +215,9 @@ static PyObject *grow_by_text(Step *self, TextCall call, PyObject *move)
     if (!UNREADY(&self->agent->holder) && !settle(self)) {
         int32_t code = call_by_text(self, call, BYTES(&text), &room);
         forget_accepted(self, NULL, 0);
-        self->size += text.len;
         /* A move of no instructions is not reported as missing. */
         if (code == ASM_DONE && text.len > 2)
-            grow_by_push(self, 1);
+            self->is_pushed = 1;
         result = code == ASM_DONE ? Py_NewRef(Py_None) : refuse_push(self, code, text.at, text.len, &room);
     }
     room_end(&room);
@@ -275,9 +246,8 @@ static PyObject *grow(Step *self, TextCall text_call, MoveCall call, PyObject *i
         WITH_ROOM(code, &room, call(SLOT(agent), SLOT(self), SLOT(move), ROOM(&room)));
     else
         code = call_by_text(self, text_call, (const uint8_t *)"[]", 2, &room);
-    self->size += move->size;
     if (code == ASM_DONE && IS_FULL(move))
-        grow_by_push(self, 1);
+        self->is_pushed = 1;
     PyObject *result = ODD(code != ASM_DONE) ? refuse_push(self, code, "", 0, &room) : Py_NewRef(Py_None);
     room_end(&room);
     return result;
@@ -318,9 +288,8 @@ static int extend_by(Step *self, Change *its)
     forget_accepted(self, at, len);
     room_begin(&room);
     int32_t code = join_last(self, its, &room);
-    self->size += change_size(its);
     if (code == ASM_DONE)
-        grow_by_push(self, its->verb != ASM_PUT);
+        self->is_pushed = 1;
     else if (its->code != ASM_DONE)
         refuse_change(self->holder.core, its);
     else
@@ -350,7 +319,6 @@ PyObject *step_pop(Step *self, PyObject *Py_UNUSED(none))
         return NULL;
     int32_t code = asm_pop(SLOT(self));
     forget_accepted(self, NULL, 0);
-    grow_by_name(self);
     self->is_pushed &= asm_depth(SLOT(self)) > 0;
     return code == ASM_DONE ? Py_NewRef(Py_None) : refuse_step(self, code);
 }
@@ -365,13 +333,9 @@ PyObject *step_pop_move(Step *self, PyObject *Py_UNUSED(none))
     }
     int32_t code = asm_pop_move(SLOT(self), SLOT(move));
     forget_accepted(self, NULL, 0);
-    grow_by_name(self);
     self->is_pushed &= asm_depth(SLOT(self)) > 0;
-    if (code == ASM_DONE) {
-        /* Nothing is known of its instructions. */
-        move->size = LINE_LIMIT;
+    if (code == ASM_DONE)
         return (PyObject *)move;
-    }
     Py_DECREF((PyObject *)move);
     return refuse_step(self, code);
 }

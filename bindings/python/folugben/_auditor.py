@@ -4,7 +4,6 @@ from typing import Any, NamedTuple
 from ._core import Audit
 from ._errors import BadJournalError, Error, Text, exact_bytes
 from ._library import Code
-from ._lines import LINE_LIMIT
 from ._texts import to_python
 
 
@@ -95,7 +94,7 @@ class Auditor(Audit):
 
     @staticmethod
     def _bad(code: int, part: int, number: int) -> BadJournalError:
-        bad = BadJournalError(code, (number,), f"a line has more than {LINE_LIMIT:,} bytes" if code == Code.LONG_LINE else "")
+        bad = BadJournalError(code, (number,), "a line has more than 1,073,741,824 bytes" if code == Code.LONG_LINE else "")
         bad.part = part
         return bad
 

@@ -207,7 +207,7 @@ class UnknownError(PackageError, RuntimeError):
 class TooLongError(Error):
     """A line of the journal would be longer than an audit reads; nothing was done.
 
-    An audit reads lines of `LINE_LIMIT` bytes.
+    An audit reads lines of 1,073,741,824 bytes.
     """
 
 
@@ -253,7 +253,7 @@ class BadJournalError(Error):
 # Codes that have an exception of their own.
 KINDS: dict[int, type[Error]] = {
     Code.STALE: StaleError, Code.CLASH: ClashError, Code.FULL: FullError, Code.BUSY: BusyError, Code.MANY: ManyError,
-    Code.LONG_MOVE: ManyError, Code.MISSING: MissingError, Code.LARGE: LargeError, Code.MOVED: MovedError, Code.DEEP: DeepError,
+    Code.LONG_LINE: TooLongError, Code.LONG_MOVE: ManyError, Code.MISSING: MissingError, Code.LARGE: LargeError, Code.MOVED: MovedError, Code.DEEP: DeepError,
 }
 
 

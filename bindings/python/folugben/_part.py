@@ -5,7 +5,6 @@ from typing import TYPE_CHECKING, Any
 from ._core import Agent, Step, Storage
 from ._errors import Error, FullError, MissingError, PastError
 from ._library import Code
-from ._lines import SHORT, expect_call, expect_recorded
 from ._turns import here
 
 if TYPE_CHECKING:
@@ -43,7 +42,7 @@ class PartStep(Step):
 
         Raises:
             PastError: its part has ended.
-            TooLongError: a line of the journal would be too long.
+            TooLongError: a line of the journal could be too long.
         """
         self._try()
         try:
@@ -74,13 +73,7 @@ class PartStep(Step):
         return True
 
     def _try(self) -> None:
-        receipts = 2 if self._agent.part.storage.record else 1
-        if self._size > SHORT:
-            call = self._offer_text()
-            expect_call(call)
-            if receipts > 1:
-                expect_recorded(call, self._agent)
-        self._agent.count_receipts(receipts)
+        self._agent.count_receipts(2 if self._agent.part.storage.record else 1)
 
 
 class PartAgent(Agent):

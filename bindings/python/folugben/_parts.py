@@ -39,7 +39,6 @@ from ._errors import BrokenError, Error, MissingError, TooLongError
 from ._folder import RunWriter
 from ._guards import LockHolder, one_call
 from ._library import Code
-from ._lines import expect_lines, expect_state
 from ._part import PATIENCE, Part, PartAgent
 from ._turns import here
 
@@ -148,9 +147,8 @@ class Chain(LockHolder):
 
     def _open_behind(self, agent: PartAgent) -> None:
         part = agent.part
-        expect_state(len(agent._state_text()[1]))
-        part.until = time.monotonic() + PATIENCE
         further = Part(self, part.number + 1, part.base + part.capacity, self._moves, agent.go_on(self._moves))
+        part.until = time.monotonic() + PATIENCE
         part.next = further
         self._changed.notify_all()
 
@@ -244,7 +242,6 @@ class Chain(LockHolder):
         return False
 
     def _end_idle(self, part: Part) -> None:
-        expect_state(len(self._last_state(part)[1]))
         # The writer finds and reports a missing move, once the parts before it are written.
         part.is_last = part.storage._close() > 0
         if not part.is_last:
@@ -344,7 +341,6 @@ class Chain(LockHolder):
             journal = memoryview(part.storage.close_journal())
         except MissingError as missing:
             raise part.missing(missing.numbers[0]) from None
-        expect_lines(journal)
         return journal, part.moves()
 
     def _release(self, part: Part) -> None:

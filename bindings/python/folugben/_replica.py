@@ -9,7 +9,6 @@ from typing import NamedTuple
 from ._core import Agent, Storage
 from ._errors import Error, ManyError, TooLongError
 from ._library import Code
-from ._lines import expect_state
 from ._log import Call, LogReader
 from ._segments import Segment, Trail, segment_after
 
@@ -124,7 +123,6 @@ class Replica:
 
     def _end(self, era: Era, place: int) -> EndedSegment:
         state = self.state_text()[1]
-        expect_state(len(state))
         following = Era(state, era.number + 1, era.base + self._fired, self._moves)
         self.segment, text = self.unfinished()
         self.era, self._fired = following, 0

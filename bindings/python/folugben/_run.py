@@ -14,7 +14,6 @@ from ._errors import BrokenError, Error
 from ._folder import RunWriter
 from ._guards import ForkedError, is_in_call, one_call
 from ._library import Code
-from ._lines import expect_state
 from ._parts import Chain
 from ._reading import Reading
 from ._refusals import capacity_of, expect_keep, own_number
@@ -79,7 +78,6 @@ class Run:
         capacity = self._prepare(path, moves, every, receipts, record, keep)
         with Storage(init, capacity, record=record) as opening:
             journal = memoryview(opening.close_journal())
-            expect_state(len(journal))
             self._begin(RunWriter.create(self._path, journal), lambda: opening.next(capacity), capacity)
 
     @classmethod
@@ -108,7 +106,6 @@ class Run:
             reading = Reading(folder, trail=folder.trail)
             reading.audit(names) if check == "all" else reading.audit_last(names)
             state = folder.trail.core.state()
-            expect_state(len(state))
             folder.begin()
         except BaseException:
             folder.close()

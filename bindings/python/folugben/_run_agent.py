@@ -8,7 +8,6 @@ from ._core import Location, Played, Step
 from ._errors import Error, FullError, PastError, ahead
 from ._guards import is_in_call
 from ._library import Code
-from ._lines import LINE_LIMIT, SHORT, expect_call, too_long
 from ._part import PartAgent, PartStep
 from ._play import play
 from ._texts import Form, encode
@@ -68,14 +67,11 @@ class RunAgent:
 
         Raises:
             ManyError: there are more than 256 locations.
-            TooLongError: the values have more than 8,388,608 bytes as text, half of what a line of the journal may have.
+            TooLongError: the line of the read would be too long.
         """
         def poll(agent: PartAgent) -> tuple[int, list[Any]]:
             agent.count_receipts()
             agent.follow()
-            length = agent._peek_length(places)
-            if length > LINE_LIMIT // 2:
-                raise too_long("the read", length)
             return agent.read(places)
 
         return self._call_polling(poll)
@@ -85,11 +81,9 @@ class RunAgent:
 
         Raises:
             PastError: one of them is named at a number of a part that has ended; it is a `ConflictError`.
-            TooLongError: the line of the move would be too long.
+            TooLongError: the line of the move could be too long.
         """
         reads_list, functions = list(reads), list(scans)
-        if len(call := b'{"fire":%b,"reads":%b}' % (encode(instructions, "instructions"), encode(reads_list, "reads"))) > SHORT:
-            expect_call(call)
         while True:
             agent = self._in
             if agent is not None:

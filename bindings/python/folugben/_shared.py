@@ -10,7 +10,6 @@ from ._errors import BrokenError, Error, PastError, as_conflict
 from ._files import shown
 from ._guards import ForkedError, is_in_call
 from ._library import Code
-from ._lines import expect_call, expect_state
 from ._log import Log
 from ._play import play
 from ._refusals import capacity_of, own_number
@@ -92,9 +91,7 @@ class SharedStep(Step):
 
     def _call(self) -> tuple[bytes, bytes]:
         """Return what the fire attempts to append, and the scans that it depends on."""
-        call = self._offer_text()
-        expect_call(call)
-        return call, encode([[name, self._own_number] for name in self._scans], "scans") if self._scans else b"[]"
+        return self._offer_text(), encode([[name, self._own_number] for name in self._scans], "scans") if self._scans else b"[]"
 
 
 class SharedRun:
@@ -124,9 +121,7 @@ class SharedRun:
 
         def opening(moves: int) -> bytes:
             with Storage(state or (), moves) as storage:
-                journal = storage.close_journal()
-            expect_state(len(journal))
-            return journal
+                return storage.close_journal()
 
         if state is not None:
             opening(capacity)  # a refused argument creates no file

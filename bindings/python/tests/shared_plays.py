@@ -10,8 +10,8 @@ import threading
 import time
 from unittest import mock
 
-from folugben import BrokenError, ClashError, DamagedError, Error, ForkedError, MismatchError, Move, OverError, PastError, SharedRun, StaleError, TooLongError
-from folugben import UnknownError, _lines, audit, check, states
+from folugben import BrokenError, ClashError, DamagedError, Error, ForkedError, MismatchError, Move, OverError, PastError, SharedRun, StaleError
+from folugben import UnknownError, audit, check, states
 from folugben._reading import save, texts, verify
 from folugben_engine import bank
 from folugben_engine.agents import live_all
@@ -174,22 +174,6 @@ class Plays(Shared):
         for call in (SharedRun, audit, verify):
             with self.assertRaisesRegex(MismatchError, "of version 9"):
                 call(self.target)
-
-    def test_lines_that_are_too_long(self):
-        with mock.patch.object(_lines, "LINE_LIMIT", 3_000):
-            with self.assertRaises(TooLongError):
-                SharedRun(self.target, [[["x"], "x" * 5_000]])
-            with SharedRun(self.target, INIT, 3) as run, run.agent(0) as agent:
-                with self.assertRaises(TooLongError):
-                    agent.play(lambda step: step.push([["put", ["x"], "x" * 3_000]]))
-                agent.play(lambda step: step.push([["put", ["x"], "x" * 2_500]]))
-                agent.play(lambda step: step.push([["put", ["y"], "x" * 2_500]]))
-        with self.assertRaises(BrokenError) as caught, mock.patch.object(_lines, "LINE_LIMIT", 3_000), SharedRun(self.target) as run:
-            with run.agent(0) as agent:
-                agent.play(raised)
-                agent.play(raised)
-        self.assertIsInstance(caught.exception.__cause__, TooLongError)
-        self.assertEqual(audit(self.target).moves, 3)
 
     def test_altered_data_is_found(self):
         with SharedRun(self.target, INIT, 3) as run, run.agent(0) as agent:

@@ -6,8 +6,8 @@ import unittest
 from unittest import mock
 
 import crashes
-from folugben import BadJournalError, BrokenError, ClashError, DamagedError, Location, Move, Run, TooLongError, audit, part, states
-from folugben import _lines, _part, _run_agent
+from folugben import BadJournalError, BrokenError, Code, DamagedError, Location, Move, Run, Storage, TooLongError, audit, part, states
+from folugben import _parts
 from folugben._folder import RunWriter
 from folugben._reading import save, verify
 from rooms import COUNT, INIT, Rooms, raised, segments, text_of, until
@@ -232,96 +232,38 @@ class PowerFailures(Rooms):
 
 
 class Lines(Rooms):
-    """Nothing is written that an audit can't read."""
+    """What would make a line that an audit can't read is refused, and nothing changes."""
 
-    def setUp(self):
-        super().setUp()
-        big = 20_000
-        for name, value in [("LINE_LIMIT", big), ("SHORT", big // 16)]:
-            for module in _lines, _part, _run_agent:
-                if hasattr(module, name):
-                    self.enterContext(mock.patch.object(module, name, value))
+    # A byte of it has six in a line, so that four of these texts are too long.
+    fourth = "\x01" * (2**30 // 24)
+
+    def test_a_move_that_is_too_long(self):
+        move = Move()
+        for own in range(4):
+            move.put(Location(["a", own]), self.fourth)
+        with Run(self.path, [], 100) as run, run.agent(0) as agent:
+            with self.assertRaises(TooLongError):
+                agent.play(lambda step: step.push(move))
+            agent.play(lambda step: step.put("b", 1))
+        self.assertEqual(audit(self.path), (1, 1, 2))
 
     def test_a_state_that_is_too_long(self):
-        with self.assertRaisesRegex(TooLongError, "the state would make a line"):
-            Run(self.path, [[["x", i], i] for i in range(2_000)])
-        self.assertFalse(self.path.exists())
-        with Run(self.path, [], 10) as run, run.agent(0) as agent:
-            for own in range(10):
-                agent.play(lambda step: step.push([["put", ["x", own], "x" * 2_500]]))
-            for _ in range(3):
-                with self.assertRaisesRegex(TooLongError, "the state would make a line"):
-                    agent.play(lambda step: step.push([["put", ["x", 0], None]]))
-        self.assertEqual(audit(self.path), (10, 10, 2))
-        with self.assertRaises(TooLongError):
-            Run.resume(self.path)
+        with Storage([], 4) as storage, storage.agent(0) as agent:
+            for own in range(4):
+                agent.play(lambda step: step.push(Move().put(Location(["a", own]), self.fourth)))
+            agent.follow()
+            with self.assertRaises(TooLongError):
+                agent.go_on(4)
 
     def test_a_flush_of_a_state_that_is_too_long(self):
-        with Run(self.path, [], 100, every=0.01) as run, run.agent(0) as agent:
-            for own in range(10):
-                agent.play(lambda step: step.push([["put", ["x", own], "x" * 2_500]]))
-            with self.assertRaises(TooLongError):
-                run.flush()
-            agent.play(lambda step: step.push([["put", ["x", 0], None], ["put", ["x", 1], None], ["put", ["x", 2], None]]))
-            run.flush()
-            self.assertEqual(run.saved, 11)
-        self.assertEqual(audit(self.path)[1], 11)
-
-    def test_moves_that_are_too_long(self):
-        at, move, text = Location(["y"]), Move(), "\x01" * 4_000  # six bytes each in a line
         with Run(self.path, [], 100) as run, run.agent(0) as agent:
-            for rule in (
-                lambda step: step.push([["put", ["x"], "x" * 20_000]]),
-                lambda step: [step.push([["put", ["x", i], "x" * 3_000]]) for i in range(7)],
-                lambda step: step.push(move.clear().put(at, text)),
-                lambda step: (step.push(move.clear().put(at, text)), step.push(step.pop_move())),
-                lambda step: (step.get([["y", "z" * 10_000]]), step.push([["put", ["x"], 1]])),
-                lambda step: (step.get(Location(["y", "z" * 10_000])), step.push([["put", ["x"], 1]])),
-            ):
-                with self.assertRaisesRegex(TooLongError, "the move would make a line"):
-                    agent.play(rule)
-            with self.assertRaises(TooLongError):
-                agent.fire([["put", ["x"], "x" * 20_000]])
-            self.assertEqual(run.state(), (0, []))
-            agent.play(lambda step: step.push([["put", ["x"], "x" * 19_000]]))
-            agent.fire([["put", ["y"], "x" * 9_000]])
-            with self.assertRaisesRegex(TooLongError, "the read would make a line"):
-                agent.read([["x"], ["y"]])
-        self.assertEqual(audit(self.path), (2, 2, 2))
-
-    def test_tracked_reads_that_are_too_long(self):
-        places = [("s", own) for own in range(8)]
-        added = [[("add", at, number) for at in places] for number in range(3)]
-
-        def refused(step):
-            with self.assertRaises(ClashError):
-                step.push([*added[0], ("inc", ("t",), 1)])
-
-        gets = [
-            lambda step: step.get(places), lambda step: [step[at] for at in places], lambda step: [step.get(Location(at)) for at in places],
-            lambda step: (step.push(added[0]), step.pop()), refused,
-            # These depend on what both add to.
-            lambda step: (step.push(added[1]), step.push(added[2])), lambda step: [step.add(*it[1:]) for it in added[1] + added[2]],
-        ]
-        for record in False, True:
-            path = self.room / str(record)
-            with Run(path, [], 100, record=record) as run, run.agent(0) as agent:
-                for at in places:
-                    agent.play(lambda step: step.put(at, {at[0] * 2_500}))
-                for get in gets:
-                    with self.assertRaisesRegex(TooLongError, "the tracked reads would make a line") if record else contextlib.nullcontext():
-                        agent.play(lambda step: (get(step), step.put("y", 1)))
-                    # Half of it isn't too long.
-                    agent.play(lambda step: (step.get(places[:4]), step.push(added[1][:3]), step.pop(), step.put("z", 1)))
-            self.assertEqual(audit(path).moves, len(places) + len(gets) * (1 if record else 2))
-
-    def test_what_the_checks_let_pass_is_not_written(self):
-        """The writer checks what it writes."""
-        with mock.patch("folugben._run_agent.SHORT", 10**9), self.assertRaises(BrokenError) as caught:
-            with Run(self.path, [], 100) as run, run.agent(0) as agent:
-                agent.fire([["put", ["x"], "x" * 20_000]])
-        self.assertIsInstance(caught.exception.__cause__, TooLongError)
-        self.assertEqual(audit(self.path), (0, 0, 1))
+            agent.play(lambda step: step.put("b", 1))
+            with mock.patch.object(_parts.Chain, "_end_idle", side_effect=TooLongError(Code.LONG_LINE)), self.assertRaises(TooLongError):
+                run.flush()
+            agent.play(lambda step: step.put("b", 2))
+            run.flush()
+            self.assertEqual(run.saved, 2)
+        self.assertEqual(audit(self.path)[1], 2)
 
 
 if __name__ == "__main__":

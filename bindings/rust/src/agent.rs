@@ -148,7 +148,7 @@ impl Agent {
     /// # Errors
     ///
     /// - An error of the rule ends the play, and nothing is fired.
-    /// - [`Error::Full`], [`Error::Many`], [`Error::Memory`] of the step and its fire.
+    /// - [`Error::Full`], [`Error::Many`], [`Error::TooLong`], [`Error::Memory`] of the step and its fire.
     pub fn play<T, E: From<Error>>(&mut self, rule: impl FnMut(&mut Step<'_>) -> Result<T, E>) -> Result<Played<T>, E> {
         self.play_with(Patience::new(), rule)
     }
@@ -174,7 +174,7 @@ impl Agent {
     ///
     /// # Errors
     ///
-    /// [`Error::Many`], [`Error::Refused`], [`Error::Memory`].
+    /// [`Error::Many`], [`Error::Refused`], [`Error::TooLong`], [`Error::Memory`].
     pub fn read(&mut self, places: &[Location]) -> Result<Reading, Error> {
         self.slots.begin_turn();
         let text = places.json();
@@ -198,7 +198,7 @@ impl Agent {
     /// - [`Error::Conflict`]: a named location was written since, or too many attempts to append failed; so read again.
     /// - [`Error::Clash`]: the updates clash.
     /// - [`Error::Range`]: a number is above [`Agent::seen`].
-    /// - [`Error::Full`], [`Error::Many`], [`Error::Refused`], [`Error::Memory`].
+    /// - [`Error::Full`], [`Error::Many`], [`Error::Refused`], [`Error::TooLong`], [`Error::Memory`].
     pub fn fire(&mut self, instructions: &Move, reads: &[(Location, MoveNumber)]) -> Result<MoveNumber, Error> {
         self.fire_over(instructions, reads, &[])
     }
@@ -330,6 +330,7 @@ impl Agent {
     /// - [`Error::NotFull`]: the agent's own state is at fewer moves than its storage has room for. If that is full,
     ///   [`Agent::follow`] brings the state there.
     /// - [`Error::Range`]: the capacity is outside 1 to 1,048,576.
+    /// - [`Error::TooLong`]: a journal can't open with that state.
     /// - [`Error::Memory`].
     pub fn go_on(&self, capacity: u32) -> Result<Storage, Error> {
         self.catch_up()?;

@@ -26,7 +26,7 @@ pub enum Error {
     },
     /// As many moves were fired as the storage's capacity.
     Full,
-    /// A move or a state would make a line of a run's journal longer than the 1,073,741,824 bytes that an audit reads.
+    /// A move, a read or a state would make a line of a journal longer than the 1,073,741,824 bytes that an audit reads.
     TooLong,
     /// The agent hasn't polled to the end of a full storage.
     NotFull,
@@ -216,6 +216,7 @@ pub(crate) fn plain(code: i32) -> Error {
         sys::FULL => Error::Full,
         sys::BUSY => Conflict::Busy.into(),
         sys::MANY => Error::Many(Limit::Places(None)),
+        sys::LONG_LINE => Error::TooLong,
         sys::LONG_MOVE => Error::Many(Limit::Instructions),
         sys::DEEP => Error::Deep,
         sys::OTHER => Error::OtherStorage,

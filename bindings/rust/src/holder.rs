@@ -6,21 +6,6 @@ use crate::owned_slot::text_of_call;
 use crate::run::SeatStep;
 use crate::sys;
 
-/// How a step's pushed moves changed.
-pub(crate) enum Change {
-    Pushed {
-        is_partial: bool,
-    },
-    /// A push was refused, or moves were popped.
-    Other,
-}
-
-impl Change {
-    pub(crate) fn of(code: i32, is_partial: bool) -> Change {
-        if code == sys::DONE { Change::Pushed { is_partial } } else { Change::Other }
-    }
-}
-
 /// The agent that a step works with: one that it borrows, or one that a run has lent it.
 pub(crate) enum Holder<'a> {
     Own(&'a mut Agent),
@@ -48,20 +33,6 @@ impl Holder<'_> {
         match self {
             Holder::Own(agent) => call(agent),
             Holder::Seat(seat_step) => seat_step.with(call),
-        }
-    }
-
-    /// Counts bytes of what the step has pushed and read, which a line of a run's journal may have.
-    pub(crate) fn count(&self, size: usize) {
-        if let Holder::Seat(seat_step) = self {
-            seat_step.count(size);
-        }
-    }
-
-    /// Notes a push, or a pop.
-    pub(crate) fn note(&self, change: &Change) {
-        if let Holder::Seat(seat_step) = self {
-            seat_step.note(change);
         }
     }
 }

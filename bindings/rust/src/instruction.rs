@@ -34,10 +34,6 @@ impl Instruction {
             | Instruction::Inc(at, _) => at,
         }
     }
-
-    pub(crate) fn is_partial(&self) -> bool {
-        !matches!(self, Instruction::Put(..))
-    }
 }
 
 /// Instructions that are carried out at once.

@@ -1,6 +1,5 @@
 //! Elements of sets and bags, without the values.
 use crate::error::{Error, done};
-use crate::holder::Change;
 use crate::prepared::{Prepared, PreparedMove, operand_of};
 use crate::step::Step;
 use crate::sys;
@@ -45,7 +44,7 @@ impl Step<'_> {
         let mut count = 0;
         let to = &raw mut count;
         // SAFETY: the slots are of one agent and its step, which this thread alone has, and the texts and numbers outlive the call.
-        let code = self.report(&at, length, |slot, step, place| unsafe {
+        let code = self.report(&at, |slot, step, place| unsafe {
             sys::asm_count_of(slot, step, place.slot.at(), kind, number, text, length, to)
         })?;
         if matches!(code, sys::NOT_JSON | sys::SHAPE) {
@@ -65,7 +64,7 @@ impl Step<'_> {
         let to = &raw mut size;
         // SAFETY: the slots are of one agent and its step, which this thread alone has, and the texts and numbers outlive the call.
         let code =
-            self.report(&at, 0, |slot, step, place| unsafe { sys::asm_size(slot, step, place.slot.at(), to) })?;
+            self.report(&at, |slot, step, place| unsafe { sys::asm_size(slot, step, place.slot.at(), to) })?;
         self.expect_members(&at, code)?;
         Ok(size)
     }
@@ -74,7 +73,6 @@ impl Step<'_> {
     fn report(
         &self,
         at: &impl Place,
-        length: usize,
         call: impl Fn(*mut sys::Slot, *mut sys::Slot, &Prepared) -> i32,
     ) -> Result<i32, Error> {
         at.with_prepared(|place| {
@@ -83,9 +81,6 @@ impl Step<'_> {
                 unsafe { *written = 0 };
                 call(slot, step, place)
             })?;
-            self.agent.count(place.size + length);
-            // A recorded commit reads a value there that isn't known.
-            self.agent.note(&Change::Other);
             Ok(code)
         })
     }

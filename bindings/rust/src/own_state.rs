@@ -23,11 +23,6 @@ impl Agent {
     ///
     /// [`Error::Refused`], [`Error::Memory`].
     pub fn peek(&self, places: &[Location]) -> Result<Reading, Error> {
-        answer(&self.peek_text(places)?, Reading::of)
-    }
-
-    /// The same as the text `{"number":N,"values":[VALUE, ..]}`.
-    pub(crate) fn peek_text(&self, places: &[Location]) -> Result<Vec<u8>, Error> {
         self.catch_up()?;
         let text = places.json();
         // SAFETY: the slots are held by this agent, no call is at work on them, and the texts and numbers outlive the call.
@@ -35,7 +30,7 @@ impl Agent {
             sys::asm_peek(self.slots.agent(), text.as_ptr(), text.len(), out, room, written)
         });
         done_with(code, sys::FORM_LOCATIONS, &text)?;
-        Ok(output)
+        answer(&output, Reading::of)
     }
 
     /// Returns the value of a prepared location in its own state, with its number.

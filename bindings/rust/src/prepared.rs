@@ -3,7 +3,6 @@ use crate::cause::OutOfRange;
 use crate::error::{Error, answer, done, done_with};
 use crate::json::{Json, ToJson};
 use crate::owned_slot::OwnedSlot;
-use crate::run::short;
 use crate::sys;
 use crate::value::{Element, Location, Value};
 use std::fmt;
@@ -11,8 +10,6 @@ use std::fmt;
 /// A location that the library has read once, for agents and steps of any storage.
 pub struct Prepared {
     location: Location,
-    /// How many bytes its text has.
-    pub(crate) size: usize,
     pub(crate) slot: OwnedSlot,
 }
 
@@ -32,7 +29,7 @@ impl Prepared {
             }
             code => done(code)?,
         }
-        Ok(Prepared { location: location.clone(), size: text.len(), slot })
+        Ok(Prepared { location: location.clone(), slot })
     }
 
     /// The location.
@@ -100,8 +97,6 @@ pub(crate) fn expect_instructed(code: i32, at: &Prepared, bytes: &str, amount: u
 /// A text is made of lists, sets and bags alone. More can be gathered after what [`Step::pop_move`](crate::Step::pop_move)
 /// returns.
 pub struct PreparedMove {
-    /// How many bytes its text has, about; of a popped move nothing is known.
-    pub(crate) size: usize,
     pub(crate) slot: OwnedSlot,
 }
 
@@ -109,14 +104,14 @@ impl PreparedMove {
     /// The move without instructions.
     #[must_use]
     pub fn new() -> PreparedMove {
-        PreparedMove { size: 0, slot: OwnedSlot::empty() }
+        PreparedMove { slot: OwnedSlot::empty() }
     }
 
     /// The move that the call puts into the slot.
     pub(crate) fn put_by(call: impl FnOnce(*mut sys::Slot) -> Result<(), Error>) -> Result<PreparedMove, Error> {
         let slot = OwnedSlot::empty();
         call(slot.at())?;
-        Ok(PreparedMove { size: short(), slot })
+        Ok(PreparedMove { slot })
     }
 
     /// How many instructions it has.
@@ -135,7 +130,6 @@ impl PreparedMove {
     /// Leaves it without instructions.
     pub fn clear(&mut self) -> &mut PreparedMove {
         self.slot.free();
-        self.size = 0;
         self
     }
 
@@ -148,7 +142,6 @@ impl PreparedMove {
         };
         expect_instructed(code, at, &bytes, amount)?;
         done(code)?;
-        self.size += at.size + bytes.len();
         Ok(self)
     }
 
@@ -237,7 +230,6 @@ impl PreparedMove {
         }
         // SAFETY: the slots are held by this thread, and are two.
         done(unsafe { sys::asm_unite(self.slot.at(), other.slot.at()) })?;
-        self.size += other.size;
         Ok(self)
     }
 

@@ -1,6 +1,5 @@
 //! Moves of one instruction at a prepared location, each of which is made as it is pushed.
 use crate::error::{Error, done_or_refusal};
-use crate::holder::Change;
 use crate::prepared::{Prepared, expect_instructed, operand_of};
 use crate::step::Step;
 use crate::sys;
@@ -90,8 +89,6 @@ impl Step<'_> {
             let place = at.slot.at();
             sys::asm_push_at(slot, step, place, verb, kind, number, text, length, amount, out, room, written)
         })?;
-        self.agent.count(at.size + length);
-        self.agent.note(&Change::of(code, verb != 0));
         expect_instructed(code, at, &bytes, amount)?;
         done_or_refusal(code, &output)
     }

@@ -21,7 +21,6 @@
 mod agent;
 mod ended;
 mod folder;
-mod lines;
 mod part;
 mod parts;
 mod reading;
@@ -31,7 +30,6 @@ mod writer;
 
 pub use agent::{RunAgent, RunStep};
 pub use ended::{Broken, EndCause};
-pub(crate) use lines::short;
 pub use reading::audit_run;
 pub(crate) use seat::SeatStep;
 
@@ -151,7 +149,6 @@ impl RunOptions {
         self.expect_keep()?;
         let storage = Storage::open(state, self.moves)?;
         let opening = storage.close()?;
-        lines::events(opening.as_bytes())?;
         let path = path.as_ref();
         let folder = writer::on_own_thread(|| RunFolder::create(path, opening.as_bytes()))?;
         let there = names(folder.path())?;
@@ -181,7 +178,6 @@ impl RunOptions {
         let (before, checked) = names.split_at(unread);
         let state = folder.read(before, checked)?;
         let storage = Storage::open_text(&state, self.moves)?;
-        lines::expect_state(&storage)?;
         self.start(storage, folder, names)
     }
 

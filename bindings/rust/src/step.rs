@@ -2,7 +2,7 @@
 use crate::additions::Additions;
 use crate::agent::Reading;
 use crate::error::{Error, answer, done, done_or_refusal, done_with};
-use crate::holder::{Change, Holder, commit, offer_text};
+use crate::holder::{Holder, commit, offer_text};
 use crate::instruction::{Instruction, Move};
 use crate::json::{Json, ToJson};
 use crate::number::MoveNumber;
@@ -65,7 +65,6 @@ impl Step<'_> {
         let (code, output) = self.text_of_settled_call(|slot, step, out, room, written| unsafe {
             call(slot, step, text.as_ptr(), text.len(), out, room, written)
         })?;
-        self.agent.count(text.len() + output.len());
         done_with(code, sys::FORM_LOCATIONS, &text)?;
         Ok(answer(&output, Reading::of)?.values)
     }
@@ -140,8 +139,6 @@ impl Step<'_> {
         let (code, output) = self.text_of_settled_call(|slot, step, out, room, written| unsafe {
             call(slot, step, text.as_ptr(), text.len(), out, room, written)
         })?;
-        self.agent.count(text.len());
-        self.agent.note(&Change::of(code, instructions.iter().any(Instruction::is_partial)));
         match code {
             sys::NOT_JSON | sys::SHAPE => {
                 let call = format!("{{\"fire\":{text},\"reads\":[]}}");
@@ -184,8 +181,6 @@ impl Step<'_> {
         let (code, output) = self.text_of_call(|slot, step, out, room, written| unsafe {
             call(slot, step, instructions.slot.at(), out, room, written)
         })?;
-        self.agent.count(instructions.size);
-        self.agent.note(&Change::of(code, true));
         done_or_refusal(code, &output)
     }
 
@@ -265,7 +260,6 @@ impl Step<'_> {
     pub fn pop(&mut self) -> Result<(), Error> {
         self.settle()?;
         self.additions.get_mut().forget();
-        self.agent.note(&Change::Other);
         // SAFETY: the slots are of one agent and its step, which this thread alone has, and the texts and numbers outlive the call.
         self.agent.with(|agent| match unsafe { sys::asm_pop(agent.slots.step()) } {
             sys::NO_PUSH => Err(Error::NoMove),
@@ -286,7 +280,6 @@ impl Step<'_> {
     pub fn pop_move(&mut self) -> Result<PreparedMove, Error> {
         self.settle()?;
         self.additions.get_mut().forget();
-        self.agent.note(&Change::Other);
         PreparedMove::put_by(|slot| self.pop_into(slot))
     }
 
@@ -333,7 +326,7 @@ impl Step<'_> {
     /// - [`Error::Conflict`]: another agent was quicker, so begin again, as [`Agent::play`](crate::Agent::play) does.
     /// - [`Error::Full`]: the storage has no room for a further move. Of a step of a run that is a conflict too.
     /// - [`Error::Many`], [`Error::Memory`].
-    /// - Of a step of a run [`Error::TooLong`]: the line of the move would be longer than an audit reads.
+    /// - [`Error::TooLong`]: a line of the journal could be longer than an audit reads.
     #[must_use = "a stale step has fired nothing"]
     pub fn commit(self) -> Result<MoveNumber, Error> {
         self.settle()?;

@@ -113,6 +113,7 @@ impl Storage {
     ///
     /// - [`Error::Range`]: the capacity is outside 1 to 1,048,576.
     /// - [`Error::Refused`]: a location is there twice, or something is against the rules of locations and values.
+    /// - [`Error::TooLong`]: a journal can't open with the state.
     /// - [`Error::Memory`].
     pub fn open(state: impl IntoIterator<Item = (Location, Value)>, capacity: u32) -> Result<Storage, Error> {
         let state: Vec<_> = state.into_iter().collect();
@@ -259,6 +260,7 @@ impl Storage {
     ///
     /// - [`Error::NoJournal`]: none was made since an agent was returned.
     /// - [`Error::Range`]: the capacity is outside 1 to 1,048,576.
+    /// - [`Error::TooLong`]: a journal can't open with that state.
     /// - [`Error::Memory`].
     pub fn next(&self, capacity: u32) -> Result<Storage, Error> {
         let next = OwnedSlot::empty();

@@ -63,7 +63,6 @@ impl sealed::Place for Prepared {
         let (code, bytes) = step.text_of_settled_call(|slot, step, out, room, written| unsafe {
             sys::asm_get_at(slot, step, self.slot.at(), &raw mut head, out, room, written)
         })?;
-        step.agent.count(self.size + bytes.len());
         done(code)?;
         value_of(&head, &bytes)
     }

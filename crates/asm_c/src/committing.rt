@@ -24,6 +24,7 @@ use std::alloc::Global;
 ///   receipt names the smallest of these, behind the others, at the step's number.
 /// - `ASM_MANY`: the locations that it would name and the scanned functions are more than 256 together.
 /// - `ASM_EMPTY`: the first slot has no agent, the second no step, or the two are one.
+/// - `ASM_LONG_LINE`: as of `asm_try_fire_over`.
 /// - `ASM_CLASH`: each push was accepted, and something was written since that one of the moves doesn't fit. Begin the
 ///   step again, as after `ASM_STALE`.
 /// - `ASM_FULL`, `ASM_BUSY`, `ASM_MEMORY`: as of `asm_try_fire`.
@@ -51,6 +52,8 @@ pub extern "C" fn asm_commit(
 ///
 /// # Errors
 /// - `ASM_MANY`: as of `asm_commit`, and nothing changes.
+/// - `ASM_LONG_LINE`: as of `asm_commit`, or the line of the read would be too long with the values in the agent's own
+///   state. Nothing changes.
 /// - `ASM_EMPTY`: as of `asm_commit`.
 /// - `ASM_STALE`, `ASM_CLASH`, `ASM_FULL`, `ASM_BUSY`: as of `asm_commit`. The receipt of the read stays: it is a legal
 ///   read.

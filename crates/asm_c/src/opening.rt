@@ -19,6 +19,7 @@ use std::alloc::Global;
 /// - `ASM_NOT_JSON`: `init` isn't JSON.
 /// - `ASM_SHAPE`: `init` is JSON of another shape, or beyond a limit.
 /// - `ASM_CAPACITY`: the capacity isn't 1 to 1,048,576.
+/// - `ASM_LONG_LINE`: the first line of its journal would be longer than an audit reads (1,073,741,824 bytes).
 /// - `ASM_MEMORY`: out of memory.
 #[unsafe(no_mangle)]
 pub extern "C" fn asm_open(alloc: Global, init: &[u8], capacity: u32, store: &mut Slot) -> i32
@@ -112,6 +113,7 @@ pub extern "C" fn asm_free(alloc: Global, slot: &mut Slot)
 /// - `ASM_EMPTY`: the first slot has no storage.
 /// - `ASM_NO_JOURNAL`: the storage wasn't closed since an agent was returned or checked out.
 /// - `ASM_CAPACITY`: the capacity isn't 1 to 1,048,576.
+/// - `ASM_LONG_LINE`: as of `asm_open`.
 /// - `ASM_MEMORY`: out of memory.
 #[unsafe(no_mangle)]
 pub extern "C" fn asm_next(alloc: Global, store: &mut Slot, capacity: u32, next: &mut Slot) -> i32
@@ -138,6 +140,7 @@ pub extern "C" fn asm_next(alloc: Global, store: &mut Slot, capacity: u32, next:
 /// - `ASM_EMPTY`: the first slot has no agent.
 /// - `ASM_NOT_FULL`: the agent's own state is at fewer moves than its storage has room for.
 /// - `ASM_CAPACITY`: the capacity isn't 1 to 1,048,576.
+/// - `ASM_LONG_LINE`: as of `asm_open`.
 /// - `ASM_MEMORY`: out of memory.
 #[unsafe(no_mangle)]
 pub extern "C" fn asm_go_on(alloc: Global, agent: &mut Slot, capacity: u32, next: &mut Slot) -> i32

@@ -21,6 +21,8 @@ use std::alloc::Global;
 /// - `ASM_EMPTY`: the slot has no agent.
 /// - `ASM_NOT_JSON`: `locations` isn't JSON.
 /// - `ASM_SHAPE`: `locations` is JSON of another shape, or beyond a limit.
+/// - `ASM_LONG_LINE`: with the values in the agent's own state, before it polls, the read's line in a journal would be
+///   longer than an audit reads (1,073,741,824 bytes).
 /// - `ASM_MANY`: there are more than 256 locations.
 /// - `ASM_MEMORY`: out of memory.
 #[unsafe(no_mangle)]
@@ -48,7 +50,9 @@ pub extern "C" fn asm_read(alloc: Global, agent: &mut Slot, locations: &[u8]) ->
 /// - `ASM_SHAPE`: `call` is JSON of another shape, or beyond a limit.
 /// - `ASM_AHEAD`: a location is named at a number above that of the moves that the agent has seen, which would guard
 ///   nothing.
-/// - `ASM_MANY`: there are more than 256 named locations. `ASM_AHEAD` comes before it.
+/// - `ASM_LONG_LINE`: with the longest reply that it may have, the fire's line in a journal would be longer than an audit
+///   reads (1,073,741,824 bytes).
+/// - `ASM_MANY`: there are more than 256 named locations. `ASM_AHEAD` and `ASM_LONG_LINE` come before it.
 /// - `ASM_BUSY`: 64 attempts to append were lost to other agents. `numbers.from` and `numbers.to` are how many moves
 ///   the agent had seen at the start and at the end of the call.
 /// - `ASM_MEMORY`: out of memory.
@@ -107,7 +111,9 @@ pub extern "C" fn asm_answer(
 /// - `ASM_NOT_JSON`, `ASM_SHAPE`: as of `asm_try_fire`, of the call, or else of the scans.
 /// - `ASM_AHEAD`: a location is named, or a function was scanned, at a number above that of the moves that the agent
 ///   has seen.
-/// - `ASM_MANY`: there are more than 256 named locations and scans together. `ASM_AHEAD` comes before it.
+/// - `ASM_LONG_LINE`: as of `asm_try_fire`, without the location that a scan adds to the reply.
+/// - `ASM_MANY`: there are more than 256 named locations and scans together. `ASM_AHEAD` and `ASM_LONG_LINE` come before
+///   it.
 /// - `ASM_EMPTY`, `ASM_BUSY`, `ASM_MEMORY`: as of `asm_try_fire`.
 #[unsafe(no_mangle)]
 pub extern "C" fn asm_try_fire_over(

@@ -19,3 +19,6 @@ pub mod Commits
 pub mod MembersOfSteps
 pub mod CountsOfSteps
 pub mod StandingSteps
+pub mod LineRooms
+pub mod ShortLines
+pub mod ShortParts

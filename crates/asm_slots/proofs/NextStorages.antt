@@ -1,13 +1,13 @@
 -- Storages that are opened, and that continue where others ended.
-use Rattle.std.proofs.Common.{◌≡◌, ◌∙◌, ℕ, List, length, Result, Ok, Err, IfOk, subst, sym}
+use Rattle.std.proofs.Common.{◌≡◌, ◌∙◌, ℕ, List, length, subst, sym}
 use Rattle.asm_update.specs.Fire.{state_of}
 use Rattle.asm_update.specs.State.{State}
 use Rattle.asm_storage.specs.History.{fired_moves}
 use Rattle.asm_storage.specs.Storage.{StorageView}
-use Rattle.asm_storage.specs.declared.error.StorageError.{StorageError}
 use Rattle.asm_storage.specs.declared.history.History.{History}
 use Rattle.asm_journal.specs.Reading.{ReadsAs}
 use Rattle.asm_journal.specs.Text.{text_of}
+use Rattle.asm_slots.specs.LongLines.{IsLongState}
 use Rattle.asm_slots.specs.NextStore.{HasOpened}
 use Rattle.asm_slots.specs.ClosedJournal.{Leaves}
 use Rattle.asm_slots.specs.Standard.{Standard, part}
@@ -22,10 +22,12 @@ leaves text S h same reads left = record {
 }
 
 -- a storage that opens with what is retained
-pub has_opened : (r : Result (StorageView Standard) StorageError) (bytes text : List ℕ) (S T : State) (most : ℕ) → text ≡ bytes →
-    T ≡ S → Leaves text S → IfOk r (λ s. s.init ≡ T) → IfOk r (λ s. length s.row ≡ most) → IfOk r (HasOpened bytes most)
-has_opened (Ok s) bytes text S T most same kept leaves init room = record {
+pub has_opened : (s : StorageView Standard) (bytes text : List ℕ) (S T : State) (most : ℕ) → text ≡ bytes → T ≡ S → Leaves text S →
+    s.init ≡ T → length s.row ≡ most → HasOpened bytes most s
+has_opened s bytes text S T most same kept leaves init room = record {
   init = subst (Leaves bytes) (sym (init ∙ kept)) (subst (λ (t : List ℕ). Leaves t S) same leaves);
   capacity = room;
 }
-has_opened (Err e) bytes text S T most same kept leaves init room = tt
+
+pub still_short : (init S T D : State) → init ≡ T → T ≡ S → D ≡ S → ¬ IsLongState D → ¬ IsLongState init
+still_short init S T D opens kept same short = subst (λ (x : State). ¬ IsLongState x) (same ∙ sym (opens ∙ kept)) short

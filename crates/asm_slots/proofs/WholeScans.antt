@@ -28,6 +28,7 @@ use Rattle.asm_storage.specs.declared.entry.Entry.{Entry}
 use Rattle.asm_slots.specs.AgentCalls.{HasAnswered, IsRepliedOver}
 use Rattle.asm_slots.specs.AgentAnswers.{AreWholeOver, HasTriedFireOver, ReadAsFireOver, is_any_over}
 use Rattle.asm_slots.specs.AgentAnswers.{is_any_above}
+use Rattle.asm_slots.specs.LongLines.{IsLongFire}
 use Rattle.asm_slots.specs.OwnState.{state_at}
 use Rattle.asm_slots.specs.Standard.{Standard, meaning, part}
 
@@ -80,15 +81,16 @@ whole_over a new reads over M r reported within k is = fired (subst (IsRepliedOv
 -- the answer to a fire over scans
 pub tried_over : (call scans : List ℕ) (a new : AgentAt Standard) (reads : List Named) (over : List Scanned) (M : Move)
     (answer : Result Reply FireError) → ReadAsFireOver call scans reads over M →
-    is_any_over reads over (length a.account.seen) ≡ false →
+    is_any_over reads over (length a.account.seen) ≡ false → ¬ IsLongFire reads M →
     (IsErrOf answer ManyReads ↔ (reads_limit < length reads + length over)) → IfOk answer (IsRepliedOver a new reads over M) →
     HasAnswered answer a new → HasTriedFireOver call scans answer a new
-tried_over call scans a new reads over M answer read within many replied answered = record {
+tried_over call scans a new reads over M answer read within short many replied answered = record {
   reads = reads;
   over = over;
   move = M;
   read = read;
   within = within;
+  short = short;
   many = many;
   replied = replied;
   whole = IfOk-weaker answer _ _ (λ r is. whole_over a new reads over M r is within) replied;

@@ -20,7 +20,8 @@ use Rattle.asm_journal.specs.Shape.{pair_of, IsListForm, IsNumberForm}
 use Rattle.asm_explain.specs.Bytes.{ReadAsFire, AreLocations, IsFireForm, ReadAs}
 use Rattle.asm_slots.specs.Answers.{EmptyOr, IsUnreadAs}
 use Rattle.asm_slots.specs.AgentCalls.{HasAnswered, HasPolled, HasRead, IsRepliedOver, MayHavePolled, ReportsFire, SeesOn, no_numbers}
-use Rattle.asm_slots.specs.Bytes.{AreMisread, AreReads, ReadAsManyLocations, ReadAsMoreReads, ReadAsReads}
+use Rattle.asm_slots.specs.Bytes.{AreMisread, AreReads, ReadAsLocations, ReadAsManyLocations, ReadAsMoreReads, ReadAsReads}
+use Rattle.asm_slots.specs.LongLines.{IsLongFire, IsLongRead}
 use Rattle.asm_slots.specs.OwnState.{state_at, NoneIsStale, HasPolledOn, IsStaleOf}
 use Rattle.asm_slots.specs.Slots.{Changes, Lacks, an_agent}
 use Rattle.asm_slots.specs.Standard.{Standard, meaning}
@@ -50,17 +51,31 @@ abbrev pub ReadsWithin : List ℕ → AgentAt Standard → Type 0
 ReadsWithin bytes a =
     (reads : List Named) × ReadAsReads bytes reads × (is_any_above reads (length a.account.seen) ≡ false)
 
+-- the line of a read of these locations is too long, with the values in the agent's own state
+abbrev pub IsLongOwnRead : List Place → AgentAt Standard → Type 0
+IsLongOwnRead locations a = IsLongRead (val (state_at a a.number)) locations
+
+-- the bytes are no locations, or those of a read that is too long
+abbrev pub IsNoRead : List ℕ → AgentAt Standard → Code → Type 0
+IsNoRead bytes a refusal.LongLine = (locations : List Place) × ReadAsLocations bytes locations × IsLongOwnRead locations a
+IsNoRead bytes a c = IsUnreadAs AreLocations bytes c
+
+-- the bytes are the locations of a read that isn't too long
+abbrev pub IsShortRead : List ℕ → AgentAt Standard → Type 0
+IsShortRead bytes a = (locations : List Place) × ReadAsLocations bytes locations × ¬ IsLongOwnRead locations a
+
 -- the locations of these bytes are read
 abbrev pub Reads : List ℕ → Option Content → Option Content → Type 0
-Reads locations agent after = Changes an_agent agent after (λ a b. HasRead locations a b × IsSameAgent a b × SeesOn a b)
+Reads locations agent after =
+    Changes an_agent agent after (λ a b. HasRead locations a b × IsShortRead locations a × IsSameAgent a b × SeesOn a b)
 
--- there is no agent, memory was refused, there are too many locations, or the bytes are none
+-- there is no agent, memory was refused, there are too many locations, the bytes are none, or the line would be too long
 abbrev pub IsNotRead : List ℕ → Option Content → Option Content → Code → Type 0
 IsNotRead locations agent after refusal.Empty = Lacks an_agent agent × (after ≡ agent)
 IsNotRead locations agent after refusal.Memory =
     Changes an_agent agent after (λ a b. HasPolled a b × MayHavePolled a b × IsSameAgent a b × SeesOn a b)
 IsNotRead locations agent after refusal.Many = Changes an_agent agent after (λ a b. b ≡ a) × ReadAsManyLocations locations
-IsNotRead locations agent after c = Changes an_agent agent after (λ a b. b ≡ a) × IsUnreadAs AreLocations locations c
+IsNotRead locations agent after c = Changes an_agent agent after (λ a b. (b ≡ a) × IsNoRead locations a c)
 
 -- the bytes are JSON of a move without such a read, and the fire of it has this answer: that the declared reads are too
 -- many exactly if they are more than 256
@@ -69,14 +84,20 @@ pub record HasTriedFire (call : List ℕ) (answer : Result Reply FireError) (old
   pub move : Move
   pub read : ReadAsFire call reads move
   pub within : is_any_above reads (length old.account.seen) ≡ false
+  pub short : ¬ IsLongFire reads move
   pub many : IsErrOf answer ManyReads ↔ (reads_limit < length reads)
   pub replied : IfOk answer (IsReplied meaning old new reads move)
   pub coherent : IfOk answer (IsCoherentReply meaning new reads move)
   pub answered : HasAnswered answer old new
 
--- the bytes are no move, or one of its declared reads has such a number
+-- the bytes are JSON of a move whose line could be too long
+abbrev pub FiresLong : List ℕ → Type 0
+FiresLong bytes = (reads : List Named) × (M : Move) × ReadAsFire bytes reads M × IsLongFire reads M
+
+-- the bytes are no move, one of its declared reads has such a number, or its line could be too long
 abbrev pub IsNotTried : List ℕ → AgentAt Standard → Code → Type 0
-IsNotTried call a c = IsUnreadAs IsFireForm call c ⊎ ((c ≡ refusal.Ahead) × FiresAhead call a)
+IsNotTried call a c =
+    IsUnreadAs IsFireForm call c ⊎ ((c ≡ refusal.Ahead) × FiresAhead call a) ⊎ ((c ≡ refusal.LongLine) × FiresLong call)
 
 -- a fire is tried, and the call reports its answer; or it isn't, and nothing changes
 abbrev pub Tries : (Result Reply FireError → AgentAt Standard → AgentAt Standard → Type 0) → (AgentAt Standard → Code → Type 0) →
@@ -137,14 +158,18 @@ pub record HasTriedFireOver (call scans : List ℕ) (answer : Result Reply FireE
   pub move : Move
   pub read : ReadAsFireOver call scans reads over move
   pub within : is_any_over reads over (length old.account.seen) ≡ false
+  pub short : ¬ IsLongFire reads move
   pub many : IsErrOf answer ManyReads ↔ (reads_limit < length reads + length over)
   pub replied : IfOk answer (IsRepliedOver old new reads over move)
   pub whole : IfOk answer (λ r. AreWholeOver old over r new)
   pub answered : HasAnswered answer old new
 
--- the first bytes are no move, or else the second ones no scans; or a declared read or a scan has such a number
+-- the first bytes are no move, or else the second ones no scans; or a declared read or a scan has such a number, or the
+-- line of the move could be too long
 abbrev pub IsNotTriedOver : List ℕ → List ℕ → AgentAt Standard → Code → Type 0
-IsNotTriedOver call scans a c = AreMisread IsFireForm AreScans call scans c ⊎ ((c ≡ refusal.Ahead) × FiresOverAhead call scans a)
+IsNotTriedOver call scans a c =
+    AreMisread IsFireForm AreScans call scans c ⊎ ((c ≡ refusal.Ahead) × FiresOverAhead call scans a)
+    ⊎ ((c ≡ refusal.LongLine) × FiresLong call)
 
 -- the fire of these bytes over the scans of those
 abbrev pub FiresOver : List ℕ → List ℕ → AgentAt Standard → AgentAt Standard → Numbers → Result (Unit {0}) Code → Type 0

@@ -24,6 +24,7 @@ pub mod StepCalls
 pub mod StepAnswers
 pub mod Commit
 pub mod Kinds
+pub mod LongLines
 pub mod PushAnswers
 pub mod Popping
 pub mod ReadMoves

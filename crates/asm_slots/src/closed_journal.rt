@@ -1,15 +1,16 @@
 //! The journal that a closed storage retains, with the state that its moves leave.
-ghost use Rattle.std.specs.Prelude.{◌≡◌, IfOk, IsErrOf, string_bytes};
+ghost use Rattle.std.specs.Prelude.{◌≡◌, IfErr, IfOk, string_bytes};
 ghost use Rattle.asm_storage.specs.History.{Fits};
-ghost use Rattle.asm_storage.specs.declared.error.StorageError.TheVariants.{BadCapacity};
 ghost use Rattle.asm_journal.specs.Text.{text_of};
-ghost use Rattle.asm_slots.specs.AgentCalls.{IsNoCapacity};
-ghost use Rattle.asm_slots.specs.NextStore.{HasOpened};
+ghost use Rattle.asm_slots.specs.LongLines.{IsLongState};
+ghost use Rattle.asm_slots.specs.NextStore.{DoesNotContinue, HasOpened};
 
+use crate::codes::Code;
+use crate::long_lines::expect_state;
 use asm_aggregate::{Standard, standard};
 use asm_journal::laws::text_reads_back;
 use asm_journal::{closing_text, replay_closing};
-use asm_storage::{Closing, Storage, StorageError};
+use asm_storage::{Closing, Storage};
 use asm_update::PlainState;
 use std::alloc::{AllocError, Global};
 use std::marker::Model;
@@ -59,20 +60,17 @@ impl ClosedJournal {
         &self.text
     }
 
-    /// Open a storage with the state that the journal's moves leave.
+    /// Open a storage with the state that the journal's moves leave, unless no journal can open with that.
     ///
     /// It has this capacity.
-    pub(crate) fn next(
-        &self,
-        alloc: Global,
-        capacity: u32,
-    ) -> Result<Storage<Standard>, StorageError>
-        ensures opened { IfOk result (HasOpened self.now capacity) }
-        ensures bad { IsErrOf result BadCapacity → IsNoCapacity capacity }
+    pub(crate) fn next(&self, alloc: Global, capacity: u32) -> Result<Storage<Standard>, Code>
+        ensures opened { IfOk result (λ s. HasOpened self.now capacity s × ¬ IsLongState s.init) }
+        ensures refused { IfErr result (DoesNotContinue self.now capacity) }
     {
+        expect_state(alloc, &self.left)?;
         let Ok(left) = Arc::try_clone(&self.left) else {
-            return Err(StorageError::Memory);
+            return Err(Code::Memory);
         };
-        Storage::over(alloc, standard(), left, capacity)
+        Ok(Storage::over(alloc, standard(), left, capacity)?)
     }
 }

@@ -2,6 +2,7 @@
 ghost use Rattle.std.specs.Prelude.{◌≡◌, IfOk, MatchResult, None, string_bytes};
 ghost use Rattle.serde_json.specs.Written.{compact_text};
 ghost use Rattle.asm_journal.specs.Event.{call_json_of};
+ghost use Rattle.asm_slots.specs.AgentCalls.{no_numbers};
 ghost use Rattle.asm_slots.specs.Answers.{EmptyOr, IsMemory};
 ghost use Rattle.asm_slots.specs.Commit.{CommitsIn, HasCommitted, HasCommittedRecorded, HasFiredOnce, IsOfferText};
 ghost use Rattle.asm_slots.specs.Slots.{Holds, Lacks, a_step, content_of};
@@ -9,6 +10,7 @@ ghost use Rattle.asm_slots.specs.WrittenText.{IsWritten};
 
 use crate::codes::{Code, write};
 use crate::lend;
+use crate::long_lines::expect_fire;
 use crate::owned_agent::OwnedAgent;
 use crate::read_and_fire::{Numbers, report};
 use crate::slot::Slot;
@@ -23,10 +25,13 @@ fn commit_of(
     step: &Transaction,
     numbers: &mut Numbers,
 ) -> Result<(), Code>
+    requires { numbers.old ≡ no_numbers }
     ensures committed { HasCommitted step.now agent.old agent.new numbers.new result }
     ensures once { HasFiredOnce step.now agent.old agent.new numbers.new result }
 {
-    report(agent.commit(alloc, step), numbers)
+    let (instrs, reads) = step.prepared(alloc)?;
+    expect_fire(alloc, reads.as_slice(), instrs.as_slice())?;
+    report(agent.commit(alloc, step, instrs, reads), numbers)
 }
 
 fn commit_recorded_of(
@@ -35,9 +40,16 @@ fn commit_recorded_of(
     step: &Transaction,
     numbers: &mut Numbers,
 ) -> Result<(), Code>
+    requires { numbers.old ≡ no_numbers }
     ensures { HasCommittedRecorded step.now agent.old agent.new numbers.new result }
 {
-    report(agent.commit_recorded(alloc, step), numbers)
+    let (instrs, reads) = match step.prepare_within(alloc) {
+        Ok(prepared) => prepared,
+        Err(error) => return report(Err(error), numbers),
+    };
+    expect_fire(alloc, reads.as_slice(), instrs.as_slice())?;
+    agent.expect_read(alloc, reads.as_slice())?;
+    report(agent.commit_recorded(alloc, step, instrs, reads), numbers)
 }
 
 /// Do what `asm_commit` does.

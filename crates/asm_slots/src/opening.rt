@@ -2,13 +2,15 @@
 ghost use Rattle.std.specs.Prelude.{◌≡◌, length, MatchResult, OnErr, OnOk};
 ghost use Rattle.std.specs.Bool.{OnTrue, OnFalse};
 ghost use Rattle.asm_slots.specs.AgentCalls.{IsNoCapacity};
-ghost use Rattle.asm_slots.specs.NextStore.{DoesNotGoOn, GoesOn, IsNextOf, IsNotNext, IsNotOpened, Opens};
+ghost use Rattle.asm_slots.specs.LongLines.{IsLongState};
+ghost use Rattle.asm_slots.specs.NextStore.{DoesNotGoOn, GoesOn, IsNextOf, IsNotNext, IsNotOpened, Opens, StartsShort};
 ghost use Rattle.asm_slots.specs.Slots.{AreEmpty, Holds, a_store, content_of};
 ghost use Rattle.asm_slots.specs.Store.{IsNew};
 
 use crate::codes::Code;
 use crate::content::Content;
 use crate::lend;
+use crate::long_lines::expect_state;
 use crate::parsing::state_of;
 use crate::shared::Shared;
 use crate::slot::Slot;
@@ -26,8 +28,9 @@ fn hold_store(
     storage: Storage<Standard>,
     capacity: u32,
 ) -> Result<(), AllocError>
-    requires { length storage.row ≡ capacity }
-    ensures held { OnOk result (Holds a_store (content_of slot.new) (IsNew storage)) }
+    requires capacity { length storage.row ≡ capacity }
+    requires short { ¬ IsLongState storage.init }
+    ensures held { OnOk result (Holds a_store (content_of slot.new) (λ s. IsNew storage s × StartsShort s)) }
     ensures kept { OnErr result (content_of slot.new ≡ content_of slot.old) }
 {
     let shared = Arc::new(alloc, Shared::new(storage, capacity))?;
@@ -51,6 +54,7 @@ pub fn open(alloc: Global, init: &[u8], capacity: u32, store: &mut Slot) -> Resu
         return Err(Code::Taken);
     }
     let init = state_of(alloc, init)?;
+    expect_state(alloc, &init)?;
     let storage = Storage::new(alloc, standard(), init, capacity)?;
     hold_store(alloc, store, storage, capacity)?;
     Ok(())
@@ -131,6 +135,7 @@ pub fn go_on(alloc: Global, agent: &mut Slot, capacity: u32, next: &mut Slot) ->
     let left = state.to_plain(alloc)?;
     // Proof: the clause is about a state without undef, and only this call shows that it is one.
     left.proper();
+    expect_state(alloc, &left)?;
     let storage = Storage::new(alloc, standard(), left, capacity)?;
     hold_store(alloc, next, storage, capacity)?;
     Ok(())

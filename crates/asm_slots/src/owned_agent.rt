@@ -1,8 +1,8 @@
 //! An agent that owns a share of its storage and borrows nothing, and its calls.
 #![tactic(auto, unfolding(asm_aggregate::specs::Standard::standard_meaning))]
 
-ghost use Rattle.std.specs.Prelude.{◌≡◌, ◌↔◌, ◌<◌, ◌≤◌, ◌+◌, length, option_map, string_bytes};
-ghost use Rattle.std.specs.Prelude.{IfOk, OnOk, OnErr, IfErr, IsErrOf, nat_lt};
+ghost use Rattle.std.specs.Prelude.{◌≡◌, ◌↔◌, ◌<◌, ◌≤◌, ◌+◌, length, map, option_map, string_bytes};
+ghost use Rattle.std.specs.Prelude.{IfOk, OnOk, OnErr, IfErr, IsErrOf, MatchResult, nat_lt};
 ghost use Rattle.std.specs.List.{list_any};
 ghost use Rattle.std_alloc.specs.Arc.{arc_value};
 ghost use Rattle.asm_storage.specs.Limits.{agents_limit, reads_limit};
@@ -14,10 +14,14 @@ ghost use Rattle.asm_storage.specs.Calls.{HasPolledFor, IsReplied, IsCoherentRep
 ghost use Rattle.asm_storage.specs.Calls.{IsStaleRead};
 ghost use Rattle.asm_storage.specs.Taken.{HasTaken};
 ghost use Rattle.asm_slots.specs.Standard.{meaning};
-ghost use Rattle.asm_slots.specs.AgentAnswers.{is_any_over, is_any_above};
+ghost use Rattle.asm_slots.specs.AgentAnswers.{IsLongOwnRead, is_any_over, is_any_above};
+ghost use Rattle.asm_slots.specs.LongLines.{LongOr};
 ghost use Rattle.asm_slots.specs.OwnState.{HasPolledOn};
 ghost use Rattle.asm_slots.specs.AgentCalls.{HasAnswered, HasLearnt, HasPolled, IsLastText, IsRepliedOver, SeesOn};
 
+use crate::codes::Code;
+use crate::line_room::HasPlace;
+use crate::long_lines::expect_read;
 use crate::shared::Shared;
 use asm_aggregate::Standard;
 use asm_element::{Items, Location};
@@ -182,6 +186,14 @@ impl OwnedAgent {
         ensures number { result.now.number ≡ self.now.number }
     {
         self.part.state()
+    }
+
+    /// Refuse a read whose line would be too long, with the values in its own state.
+    pub(crate) fn expect_read<P: HasPlace>(&self, alloc: Global, places: &[P]) -> Result<(), Code>
+        ensures { MatchResult result (λ done. ¬ IsLongOwnRead (map P.place_of places.now) self.now)
+            (LongOr (IsLongOwnRead (map P.place_of places.now) self.now)) }
+    {
+        expect_read(alloc, self.state(), places)
     }
 
     /// Poll the row until no move is left, and follow; return how many it has seen.

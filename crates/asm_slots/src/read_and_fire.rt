@@ -1,23 +1,41 @@
 //! Reading and firing, with their codes and numbers.
-ghost use Rattle.std.specs.Prelude.{◌≡◌, ◌⊎◌, [], IfOk, IfErr, MatchResult};
-ghost use Rattle.asm_slots.specs.AgentAnswers.{AreScans, Fires, FiresOver, IsNotRead, ReadAsFireOver, Reads, TriesIn};
+ghost use Rattle.std.specs.Prelude.{◌≡◌, ◌⊎◌, [], IfOk, IfErr, MatchResult, OnOk};
+ghost use Rattle.asm_slots.specs.AgentAnswers.{AreScans, Fires, FiresOver, IsNoRead, IsNotRead, IsShortRead};
+ghost use Rattle.asm_slots.specs.AgentAnswers.{ReadAsFireOver, Reads, TriesIn};
 ghost use Rattle.asm_slots.specs.AgentCalls.{IsLastAnswer, ReportsFire, no_numbers};
 ghost use Rattle.asm_slots.specs.Answers.{EmptyOr, IsMemory};
-ghost use Rattle.asm_slots.specs.Bytes.{AreMisread, IsFireForm};
+ghost use Rattle.asm_slots.specs.Bytes.{AreMisread, IsFireForm, ReadAsLocations};
 ghost use Rattle.asm_slots.specs.Slots.{Holds, Lacks, an_agent, content_of};
 ghost use Rattle.asm_slots.specs.WrittenText.{IsWritten};
 
 use crate::codes::{Code, write};
 use crate::lend;
+use crate::long_lines::expect_fire;
 use crate::owned_agent::OwnedAgent;
 use crate::parsing::locations_of;
 use crate::reading_scans::scans_of;
 use crate::slot::Slot;
 use crate::take_and_put::{put_agent, take_agent};
+use asm_element::Location;
 use asm_explain::{Fire, fire_of};
 use asm_state::Scanned;
 use asm_storage::{FireError, ReadError, Reply};
 use std::alloc::Global;
+
+// Read the locations, of which a read with the values in the agent's own state has a line that isn't too long.
+fn locations_to_read(
+    alloc: Global,
+    agent: &OwnedAgent,
+    locations: &[u8],
+) -> Result<Vec<Location>, Code>
+    ensures ok { IfOk result (λ ls. ReadAsLocations locations.now ls.items) }
+    ensures short { OnOk result (IsShortRead locations.now agent.now) }
+    ensures err { IfErr result (IsNoRead locations.now agent.now) }
+{
+    let locations = locations_of(alloc, locations)?;
+    agent.expect_read(alloc, &locations)?;
+    Ok(locations)
+}
 
 /// Do what `asm_read` does.
 pub fn read(alloc: Global, agent: &mut Slot, locations: &[u8]) -> Result<(), Code>
@@ -27,11 +45,11 @@ pub fn read(alloc: Global, agent: &mut Slot, locations: &[u8]) -> Result<(), Cod
     let Some((shell, inner)) = take_agent(alloc, agent) else {
         return Err(Code::Empty);
     };
-    let locations = match locations_of(alloc, locations) {
+    let locations = match locations_to_read(alloc, &inner, locations) {
         Ok(locations) => locations,
-        Err(error) => {
+        Err(code) => {
             put_agent(agent, shell, inner);
-            return Err(Code::from(error));
+            return Err(code);
         }
     };
     let (inner, answer) = inner.read(alloc, &locations);
@@ -127,6 +145,7 @@ fn fire_in(
     if agent.is_behind(fire.reads.as_slice()) {
         return Err(Code::Ahead);
     }
+    expect_fire(alloc, fire.reads.as_slice(), fire.instrs.as_slice())?;
     // The receipt then shares the reads instead of copying them.
     let reads = fire.reads.share(alloc)?;
     report(agent.fire(alloc, &reads, &fire.instrs), numbers)
@@ -165,6 +184,7 @@ fn fire_over_in(
     if agent.is_behind_over(fire.reads.as_slice(), &scans) {
         return Err(Code::Ahead);
     }
+    expect_fire(alloc, fire.reads.as_slice(), fire.instrs.as_slice())?;
     // The receipt then shares the reads instead of copying them.
     let reads = fire.reads.share(alloc)?;
     report(

@@ -90,47 +90,42 @@ impl Transaction {
         Ok(())
     }
 
-    // Do what `commit` does, with a copy of the one move.
-    fn commit_made_in<A: Aggregator + Sync + Drop>(
-        &self,
-        alloc: Global,
-        storage: &Storage<A>,
-        part: &mut AgentPart,
-    ) -> Result<Reply, FireError>
-        requires { IsPartOf A.meaning storage.now part.old }
-        ensures part { IsPartOf A.meaning storage.now part.new }
-        ensures commits { IsOf A.meaning (agent_of storage.now part.old) self.now →
-            Commits A.meaning (agent_of storage.now part.old) (agent_of storage.now part.new) self.now result }
-        ensures one_fire { IsOneFire A.meaning (agent_of storage.now part.old) (agent_of storage.now part.new) self.now result }
+    /// Return the one move, with all reads that a commit declares: what `commit_in` fires.
+    ///
+    /// # Errors
+    ///
+    /// - `AllocError` only if memory is refused.
+    pub fn prepared(&self, alloc: Global) -> Result<(Instructions, Items<Named>), AllocError>
+        ensures names { IfOk result (λ p. NamesAll self.now p.1) }
+        ensures one { IfOk result (λ p. p.0 ≡ unwrap_or (one_move self.now.layers) []) }
+        ensures stands { IfOk result (λ p. IsMoveOf self.now.layers p.0) }
     {
-        match self.prepare(alloc) {
-            Ok((instrs, reads)) => fire_prepared_in(alloc, storage, part, self, instrs, reads),
-            Err(_) => Err(FireError::Memory),
-        }
+        let Some(instrs) = self.step.as_move_in_place() else {
+            return self.prepare(alloc);
+        };
+        let instrs = instrs.copy(alloc)?;
+        let reads = self.reads(alloc)?;
+        Ok((instrs, reads))
     }
 
-    /// Do what `commit` does.
+    /// Do what `commit` does, with what `prepared` has returned.
     pub fn commit_in<A: Aggregator + Sync + Drop>(
         &self,
         alloc: Global,
         storage: &Storage<A>,
         part: &mut AgentPart,
+        instrs: Instructions,
+        reads: Items<Named>,
     ) -> Result<Reply, FireError>
-        requires { IsPartOf A.meaning storage.now part.old }
+        requires part { IsPartOf A.meaning storage.now part.old }
+        requires names { NamesAll self.now reads }
+        requires one { instrs ≡ unwrap_or (one_move self.now.layers) [] }
+        requires stands { IsMoveOf self.now.layers instrs }
         ensures part { IsPartOf A.meaning storage.now part.new }
         ensures commits { IsOf A.meaning (agent_of storage.now part.old) self.now →
             Commits A.meaning (agent_of storage.now part.old) (agent_of storage.now part.new) self.now result }
         ensures one_fire { IsOneFire A.meaning (agent_of storage.now part.old) (agent_of storage.now part.new) self.now result }
     {
-        let Some(instrs) = self.step.as_move_in_place() else {
-            return self.commit_made_in(alloc, storage, part);
-        };
-        let Ok(instrs) = instrs.copy(alloc) else {
-            return Err(FireError::Memory);
-        };
-        match self.reads(alloc) {
-            Ok(reads) => fire_prepared_in(alloc, storage, part, self, instrs, reads),
-            Err(_) => Err(FireError::Memory),
-        }
+        fire_prepared_in(alloc, storage, part, self, instrs, reads)
     }
 }

@@ -72,8 +72,13 @@ fn read_named_in<A: Aggregator + Sync + Drop>(
 }
 
 impl Transaction {
-    // Return the one move, with all reads that a commit declares; with the scans they are at most 256.
-    fn prepare_within(&self, alloc: Global) -> Result<(Instructions, Items<Named>), FireError>
+    /// Return the one move, with all reads that a commit declares; with the scans they are at most 256.
+    ///
+    /// # Errors
+    ///
+    /// - `ManyReads` if the reads and the scans are more than 256.
+    /// - `Memory` only if memory is refused.
+    pub fn prepare_within(&self, alloc: Global) -> Result<(Instructions, Items<Named>), FireError>
         ensures names { IfOk result (λ p. NamesAll self.now p.1) }
         ensures one { IfOk result (λ p. p.0 ≡ unwrap_or (one_move self.now.layers) []) }
         ensures stands { IfOk result (λ p. IsMoveOf self.now.layers p.0) }
@@ -119,21 +124,23 @@ impl Transaction {
         fire_prepared(alloc, agent, self, &instrs, reads.as_slice())
     }
 
-    /// Do what `commit_recorded` does.
+    /// Do what `commit_recorded` does, with what `prepare_within` has returned.
     pub fn commit_recorded_in<A: Aggregator + Sync + Drop>(
         &self,
         alloc: Global,
         storage: &Storage<A>,
         part: &mut AgentPart,
+        instrs: Instructions,
+        reads: Items<Named>,
     ) -> Result<Reply, FireError>
-        requires { IsPartOf A.meaning storage.now part.old }
+        requires part { IsPartOf A.meaning storage.now part.old }
+        requires names { NamesAll self.now reads }
+        requires one { instrs ≡ unwrap_or (one_move self.now.layers) [] }
+        requires stands { IsMoveOf self.now.layers instrs }
+        requires few { length reads + length self.now.scanned ≤ reads_limit }
         ensures part { IsPartOf A.meaning storage.now part.new }
         ensures records { Records A.meaning (agent_of storage.now part.old) (agent_of storage.now part.new) self.now result }
     {
-        let (instrs, reads) = match self.prepare_within(alloc) {
-            Ok(prepared) => prepared,
-            Err(error) => return Err(error),
-        };
         match read_named_in(alloc, storage, part, reads.as_slice()) {
             Ok(_) => {}
             Err(error) => return Err(error),

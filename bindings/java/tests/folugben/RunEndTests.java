@@ -187,63 +187,45 @@ final class RunEndTests {
         }
     }
 
-    /** A state of more bytes than a line may have is refused before anything is made. */
-    private static void linesAreShort(Path path) throws IOException {
-        String state = "[[[\"a\"],\"" + "x".repeat(Texts.Lines.LIMIT) + "\"]]";
-        equal(refused(Code.LONG_LINE, () -> Run.open(state, path, 5, 9)).getClass(),
-                TooLongException.class);
-        equal(Files.exists(path), false);
+    /** A text of a byte that has six in a line: four of them are too long. */
+    private static final String FOURTH = "\u0001".repeat((1 << 30) / 24);
+
+    private static Location at(int number) {
+        return Location.of("a", number);
     }
 
-    /** A move, or a state, that would make too long a line is refused, and the run goes on. */
+    /** A state with which no journal can begin is refused. */
+    private static void statesAreShort() {
+        try (Storage storage = new Storage("[]", 4); Agent agent = storage.agent(0);
+                Move move = new Move()) {
+            for (int number = 0; number < 4; number++)
+                try (PreparedLocation at = at(number).prepare()) {
+                    move.clear().put(at, FOURTH);
+                    agent.play(step -> {
+                        step.push(move);
+                        return null;
+                    });
+                }
+            agent.follow();
+            equal(refused(Code.LONG_LINE, () -> agent.goOn(4)).getClass(), TooLongException.class);
+        }
+    }
+
+    /** A move that would make too long a line is refused, and the run goes on. */
     private static void longLinesEndNoRun(Path path) throws IOException {
-        Location text = Location.of("t");
-        String half = "x".repeat(9_000_000);
         try (Run run = Run.open(Map.of(COUNT, 0), path, 4); RunAgent agent = run.agent(0);
-                PreparedLocation at = text.prepare(); Move move = new Move()) {
-            List<Instruction> both = List.of(Instruction.put(text, half),
-                    Instruction.put(Location.of("u"), half));
-            Class<TooLongException> kind = TooLongException.class;
-            equal(refused(Code.LONG_LINE, () -> agent.fire(both, List.of())).getClass(), kind);
+                Move move = new Move()) {
+            for (int number = 0; number < 4; number++)
+                try (PreparedLocation at = at(number).prepare()) {
+                    move.put(at, FOURTH);
+                }
             try (Step step = agent.step()) {
-                step.push(both);
-                equal(refused(Code.LONG_LINE, step::commit).getClass(), kind);
-            }
-            try (Step step = agent.step()) {
-                step.push(move.put(at, half).put(at, half));
-                step.pop();
-                step.push(move.clear().put(at, half + half));
-                equal(refused(Code.LONG_LINE, step::tryCommit).getClass(), kind);
+                step.push(move);
+                equal(refused(Code.LONG_LINE, step::tryCommit).getClass(), TooLongException.class);
             }
             RunTests.count(agent);
-            agent.play(step -> {
-                step.push(move.clear().put(at, half));
-                return null;
-            });
-            agent.fire(both.subList(1, 2), List.of());
-            recordedReadsAreTooLong(agent, List.of(text, Location.of("u")));
-            RunTests.count(agent);
-            // The state is too long for the next part: the move that comes there is refused.
-            equal(refused(Code.LONG_LINE, agent::step).getClass(), kind);
-            equal(agent.won(), 4L);
-            equal(Auditor.audit(path).moves(), 0L);
         }
-        equal(Auditor.audit(path).moves(), 4L);
-    }
-
-    /** The reads of both texts can't be recorded. */
-    private static void recordedReadsAreTooLong(RunAgent agent, List<Location> texts) {
-        agent.record(true);
-        try (Step step = agent.step()) {
-            step.get(texts);
-            equal(refused(Code.LONG_LINE, step::commit).getClass(), TooLongException.class);
-        }
-        try (Step step = agent.step()) {
-            for (Location it : texts)
-                refused(Code.CLASH, () -> step.push(Instruction.inc(it, 1)));
-            equal(refused(Code.LONG_LINE, step::commit).getClass(), TooLongException.class);
-        }
-        agent.record(false);
+        equal(Auditor.audit(path).moves(), 1L);
     }
 
     private static void numbersAreFreedAtTheEnd(Path path) {
@@ -325,7 +307,7 @@ final class RunEndTests {
                          RunEndTests::abandonedAgentsEndTheRun,
                          RunEndTests::abandonedAgentsWithoutMovesAreNotMissing,
                          RunEndTests::fullDisksEndTheRun, RunEndTests::harmEndsTheRun,
-                         RunEndTests::linesAreShort, RunEndTests::longLinesEndNoRun,
+                         path -> statesAreShort(), RunEndTests::longLinesEndNoRun,
                          RunEndTests::numbersAreFreedAtTheEnd,
                          RunEndTests::argumentsAreChecked))
                 RunTests.withFile(test);

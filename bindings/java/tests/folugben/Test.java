@@ -147,8 +147,6 @@ public final class Test {
     }
 
     public static void main(String[] arguments) throws InterruptedException {
-        // Before Lines is loaded: lines of runs end at 16 MiB here, and not at 1 GiB.
-        System.setProperty("folugben.line", "16777216");
         codes();
         System.out.println("codes");
         abandonedAgents();

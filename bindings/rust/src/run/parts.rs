@@ -4,7 +4,6 @@ use crate::audit::Counts;
 use crate::error::Error;
 use crate::number::AgentNumber;
 use crate::run::ended::{Broken, EndCause};
-use crate::run::lines::expect_state;
 use crate::run::part::{Limits, Part};
 use crate::run::seat::Seat;
 use crate::storage::Storage;
@@ -206,7 +205,6 @@ impl Core {
             return Ok(());
         }
         let next = agent.go_on(self.limits.moves)?;
-        expect_state(&next)?;
         state.push(next, part.before + u64::from(self.limits.moves));
         self.changed.notify_all();
         Ok(())
@@ -329,16 +327,15 @@ impl Core {
         if is_closing {
             return Ok(Some(true));
         }
-        let next = part.storage.next(self.limits.moves)?;
-        if let Err(error) = expect_state(&next) {
-            if error != Error::TooLong {
-                return Err(error);
+        let next = match part.storage.next(self.limits.moves) {
+            Err(Error::TooLong) => {
+                (last.is_long, last.ended) = (true, None);
+                part.set_ended(false);
+                self.changed.notify_all();
+                return Ok(None);
             }
-            (last.is_long, last.ended) = (true, None);
-            part.set_ended(false);
-            self.changed.notify_all();
-            return Ok(None);
-        }
+            next => next?,
+        };
         state.push(next, part.before + u64::from(part.storage.moves()));
         self.changed.notify_all();
         Ok(Some(false))

@@ -2,12 +2,10 @@
 use crate::agent::Agent;
 use crate::cause::Conflict;
 use crate::error::Error;
-use crate::holder::{Change, commit};
+use crate::holder::commit;
 use crate::number::AgentNumber;
-use crate::run::lines::{expect_call, short};
 use crate::run::part::Part;
 use crate::run::parts::Core;
-use std::cell::Cell;
 use std::mem;
 use std::sync::{Arc, Mutex, MutexGuard, PoisonError};
 
@@ -180,18 +178,11 @@ pub(crate) struct SeatStep<'a> {
     core: &'a Core,
     seat: &'a Seat,
     start: StepStart,
-    /// About how many bytes of text it has pushed and read.
-    size: Cell<usize>,
-    /// Whether a pushed move may have partial updates.
-    is_partial: Cell<bool>,
-    /// Whether a commit may name locations whose values weren't returned.
-    names_more: Cell<bool>,
 }
 
 impl<'a> SeatStep<'a> {
     pub(crate) fn new(core: &'a Core, seat: &'a Seat, start: StepStart) -> SeatStep<'a> {
-        let (is_partial, names_more) = (Cell::new(false), Cell::new(false));
-        SeatStep { core, seat, start, size: Cell::new(0), is_partial, names_more }
+        SeatStep { core, seat, start }
     }
 
     pub(crate) fn number(&self) -> AgentNumber {
@@ -211,29 +202,10 @@ impl<'a> SeatStep<'a> {
         }
     }
 
-    pub(crate) fn count(&self, size: usize) {
-        self.size.set(self.size.get() + size);
-    }
-
-    /// Notes a change of the pushed moves. A commit names what has partial updates in one of them, if another one writes there
-    /// too; and what has some in a move that was refused or popped.
-    pub(crate) fn note(&self, change: &Change) {
-        match change {
-            Change::Pushed { is_partial } => {
-                self.names_more.set(self.names_more.get() || self.is_partial.get());
-                self.is_partial.set(self.is_partial.get() || *is_partial);
-            }
-            Change::Other => self.names_more.set(true),
-        }
-    }
-
     /// Commits in its part.
     pub(crate) fn commit(&self) -> Result<u32, Error> {
         let part = self.part();
         let result = self.with(|agent| {
-            if self.size.get() >= short() || (self.names_more.get() && agent.is_recording()) {
-                expect_call(agent)?;
-            }
             part.count_receipts(1 + u64::from(agent.is_recording()));
             commit(agent)
         });

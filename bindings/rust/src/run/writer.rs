@@ -3,7 +3,6 @@ use crate::audit::Counts;
 use crate::error::Error;
 use crate::run::ended::EndCause;
 use crate::run::folder::RunFolder;
-use crate::run::lines::events;
 use crate::run::part::Part;
 use crate::run::parts::Core;
 use crate::sys;
@@ -48,10 +47,15 @@ pub(crate) fn save_parts(core: &Core, folder: RunFolder) {
     }
 }
 
+/// Returns how many events a journal has, which are the lines after its header.
+fn events(journal: &[u8]) -> u64 {
+    journal.iter().filter(|it| **it == b'\n').count() as u64 - 1
+}
+
 /// Saves the part, unless it is the last one and nothing was called in it; returns false if it goes on.
 fn save(core: &Core, part: &Part, folder: &mut RunFolder) -> Result<bool, Error> {
     let journal = part.storage.close()?;
-    let calls = events(journal.as_bytes())?;
+    let calls = events(journal.as_bytes());
     let Some(is_last) = core.open_next_at_rest(part)? else { return Ok(false) };
     if !is_last || calls > 0 {
         folder.save(journal.as_bytes(), Counts { calls, moves: part.storage.moves().into(), ..Counts::default() })?;

@@ -24,6 +24,6 @@ returns-clause-once c =
     of_part (λ x y. IsOneFire meaning x y c.args.transaction.now c.commit_in.result) storage
     c.deref.result.now.storage c.self.inside.part c.commit_in.new.part c.args.self.now lent c.self.view_is c.commit_in.ensures.one_fire
 
-pub commit_in-requires-after_bounds : goal.commit_in-requires-after_bounds
+pub commit_in-requires-clause-part : goal.commit_in-requires-clause-part
 unfolding standard_meaning
-commit_in-requires-after_bounds c κs = lent _ _ c.self.inside.part c.deref.ensures c.self.invariant
+commit_in-requires-clause-part c κs = lent _ _ c.self.inside.part c.deref.ensures c.self.invariant

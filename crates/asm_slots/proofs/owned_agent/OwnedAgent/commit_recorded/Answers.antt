@@ -15,6 +15,6 @@ returns c =
     of_part (λ x y. Records meaning x y c.args.transaction.now c.commit_recorded_in.result) storage
     c.deref.result.now.storage c.self.inside.part c.commit_recorded_in.new.part c.args.self.now lent c.self.view_is c.commit_recorded_in.ensures.records
 
-pub commit_recorded_in-requires-after_bounds : goal.commit_recorded_in-requires-after_bounds
+pub commit_recorded_in-requires-clause-part : goal.commit_recorded_in-requires-clause-part
 unfolding standard_meaning
-commit_recorded_in-requires-after_bounds c κs = lent _ _ c.self.inside.part c.deref.ensures c.self.invariant
+commit_recorded_in-requires-clause-part c κs = lent _ _ c.self.inside.part c.deref.ensures c.self.invariant

@@ -2,7 +2,7 @@ use Rattle.std.proofs.Common.{List, inr, refl, subst}
 use Rattle.asm_state.specs.declared.named.Named.{Named}
 use Rattle.asm_storage.specs.Part.{agent_of}
 use Rattle.asm_transaction.specs.Record.{IsReading, IsUnvalidated}
-use Rattle.asm_transaction.proofs.Recorded.{recorded, unprepared, unrecorded}
+use Rattle.asm_transaction.proofs.Recorded.{recorded, unrecorded}
 use Rattle.asm_transaction.proofs.transaction.Transaction.commit_recorded_in.Goals as goal
 
 pub returns-clause-records : goal.returns-clause-records
@@ -12,23 +12,20 @@ returns-clause-records g c =
     let mid = agent_of c.args.storage.now c.read_named_in.new.part in
     let new = agent_of c.args.storage.now c.fire_prepared_in.new.part in
     let t = c.args.self.now in
-    let o = c.in-Ok-read_named_in.field-0 in
-    recorded meaning old mid new t c.in-Ok.prepared.1 c.in-Ok.prepared.0 o c.fire_prepared_in.result c.in-Ok.ensures.names c.in-Ok.ensures.few c.in-Ok.ensures.one
-    c.in-Ok.ensures.stands
-    (subst (λ (rs : List Named). IsReading meaning old mid rs o) c.as_slice.ensures c.in-Ok-read_named_in.ensures.read)
+    let o = c.in-Ok.field-0 in
+    recorded meaning old mid new t c.args.reads c.args.instrs o c.fire_prepared_in.result c.requires.names c.requires.few c.requires.one
+    c.requires.stands
+    (subst (λ (rs : List Named). IsReading meaning old mid rs o) c.as_slice.ensures c.in-Ok.ensures.read)
     c.fire_prepared_in.ensures.once
     c.fire_prepared_in.ensures.commits
 
 pub returns-in-Err-clause-records : goal.returns-in-Err-clause-records
 returns-in-Err-clause-records g c =
-    inr (c.in-Err.error, refl, unprepared (agent_of c.args.storage.now c.args.part.now) c.args.self.now c.in-Err.error c.in-Err.ensures.err)
-
-pub returns-in-Err-read_named_in-clause-records : goal.returns-in-Err-read_named_in-clause-records
-returns-in-Err-read_named_in-clause-records g c =
+    let old = agent_of c.args.storage.now c.args.part.now in
+    let new = agent_of c.args.storage.now c.read_named_in.new.part in
     inr (
-      c.in-Err-read_named_in.error,
+      c.in-Err.error,
       refl,
-      unrecorded (agent_of c.args.storage.now c.args.part.now) (agent_of c.args.storage.now c.read_named_in.new.part) c.args.self.now c.in-Ok.prepared.1 c.in-Err-read_named_in.error c.in-Ok.ensures.names
-          (subst (λ (rs : List Named). IsUnvalidated (agent_of c.args.storage.now c.args.part.now) (agent_of c.args.storage.now c.read_named_in.new.part) rs c.in-Err-read_named_in.error) c.as_slice.ensures
-          c.in-Err-read_named_in.ensures.refused),
+      unrecorded old new c.args.self.now c.args.reads c.in-Err.error c.requires.names
+          (subst (λ (rs : List Named). IsUnvalidated old new rs c.in-Err.error) c.as_slice.ensures c.in-Err.ensures.refused),
     )
