@@ -63,8 +63,7 @@ impl Step<'_> {
         let mut size = 0;
         let to = &raw mut size;
         // SAFETY: the slots are of one agent and its step, which this thread alone has, and the texts and numbers outlive the call.
-        let code =
-            self.report(&at, |slot, step, place| unsafe { sys::asm_size(slot, step, place.slot.at(), to) })?;
+        let code = self.report(&at, |slot, step, place| unsafe { sys::asm_size(slot, step, place.slot.at(), to) })?;
         self.expect_members(&at, code)?;
         Ok(size)
     }

@@ -49,7 +49,8 @@ pub(crate) fn save_parts(core: &Core, folder: RunFolder) {
 
 /// Returns how many events a journal has, which are the lines after its header.
 fn events(journal: &[u8]) -> u64 {
-    journal.iter().filter(|it| **it == b'\n').count() as u64 - 1
+    // The text ends with a line feed, so there is an empty piece behind the last one.
+    journal.split(|it| *it == b'\n').count() as u64 - 2
 }
 
 /// Saves the part, unless it is the last one and nothing was called in it; returns false if it goes on.
