@@ -175,6 +175,11 @@ impl Transaction {
         ensures err { IfErr result (IsUntracked locations.items self.old) }
         ensures stays { OnErr result (self.new ≡ self.old) }
     {
+        // One location goes in where a search finds its place; the list isn't copied for it.
+        match locations.split_first() {
+            Some((at, rest)) if rest.is_empty() => return self.track_one(alloc, at),
+            _ => {}
+        }
         let tracked = self.tracked_with(alloc, locations)?;
         self.tracked = tracked;
         Ok(())
