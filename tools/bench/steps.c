@@ -93,6 +93,19 @@ static void gets_and_puts(size_t i) { play(0, i * STRIDE % locations, 16, 4); }
 static void gets(size_t i) { play(0, i * STRIDE % locations, 64, 0); }
 static void single_gets(size_t i) { play(0, i * STRIDE % locations, 256, 0); }
 
+/* The step gets 256 locations, each by a text of its own. */
+static void text_gets(size_t i) {
+    REQUIRE(asm_begin(&agents[0], &steps[0], &number) == ASM_DONE);
+    for (size_t k = 0; k < 256; k++) {
+        char text[64];
+        size_t place = (i * STRIDE + k * APART) % locations;
+        int length = snprintf(text, sizeof text, "[[\"x\",%zu]]", place);
+        REQUIRE(asm_get(&agents[0], &steps[0], (const uint8_t *)text, (size_t)length, OUT) ==
+                ASM_DONE);
+    }
+    REQUIRE(asm_commit(&agents[0], &steps[0], &numbers) == ASM_DONE);
+}
+
 static void increment(size_t i) {
     REQUIRE(asm_begin(&agents[0], &steps[0], &number) == ASM_DONE);
     REQUIRE(asm_push_at(&agents[0], &steps[0], &at[i * STRIDE % locations], ASM_INC, ASM_KIND_NUM, 1,
@@ -166,6 +179,7 @@ static const struct work {
     {"gets_and_puts", gets_and_puts, NULL},
     {"gets", gets, NULL},
     {"single_gets", single_gets, NULL},
+    {"text_gets", text_gets, NULL},
     {"increment", increment, NULL},
     {"scan", scan, NULL},
     {"fire", fire_text, NULL},
