@@ -41,6 +41,23 @@ static void push_text(const char *location, size_t escaped, size_t more) {
     asm_free_location(&at);
 }
 
+/* An audit reads the journal of the agent's calls, whose longest line has nearly as many bytes as a
+ * line may have. */
+static void is_audited(void) {
+    struct asm_audit audit = {0};
+    asm_audit_numbers told;
+    uint32_t moves;
+    size_t length, taken;
+    REQUIRE(asm_give(&storage, &agent) == ASM_DONE && asm_close(&storage, &moves) == ASM_DONE);
+    REQUIRE(asm_journal(&storage, NULL, 0, &length) == ASM_SMALL && length > LINE - ROOM);
+    uint8_t *journal = malloc(length);
+    REQUIRE(journal != NULL && asm_journal(&storage, journal, length, &length) == ASM_DONE);
+    REQUIRE(asm_audit(&audit, journal, length, &taken, &told) == ASM_DONE && taken == length);
+    REQUIRE(asm_audited(&audit, &told) == ASM_DONE && told.moves == 1);
+    asm_free_audit(&audit);
+    free(journal);
+}
+
 /* The longest value with which a line is short enough, and one more byte. */
 static void test_commits(void) {
     REQUIRE(FITS * ESCAPE + SIGNS == LINE - ROOM);
@@ -50,6 +67,8 @@ static void test_commits(void) {
         REQUIRE(asm_commit(&agent, &step, &numbers) == (more ? ASM_LONG_LINE : ASM_DONE));
         REQUIRE(numbers.fired == !more && numbers.from == 0 && numbers.to == 0);
         REQUIRE(asm_depth(&step) == more && asm_won(&agent) == !more);
+        if (!more)
+            is_audited();
         asm_free_step(&step);
         asm_free_agent(&agent);
         asm_free_storage(&storage);
