@@ -20,7 +20,7 @@ use Rattle.asm_transaction.specs.View.{new_transaction}
 use Rattle.asm_slots.specs.Bytes.{ReadAsLocations, ReadAsReads}
 use Rattle.asm_slots.specs.AgentCalls.{HasPolled, SeesOn}
 use Rattle.asm_slots.specs.Kinds.{IsValueBy, bytes_of}
-use Rattle.asm_slots.specs.Slots.{Changes, HasRoomFor, HoldBoth, Holds, Lacks, a_step, an_agent}
+use Rattle.asm_slots.specs.Slots.{Changes, HasRoomFor, HoldBoth, Lacks, a_step, an_agent}
 use Rattle.asm_slots.specs.Standard.{Standard, meaning, part}
 use Rattle.asm_slots.specs.declared.codes.Code.{Code}
 use Rattle.asm_slots.specs.declared.codes.Code.TheVariants as code

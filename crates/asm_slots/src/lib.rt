@@ -18,6 +18,7 @@ mod explaining;
 pub mod getting_all;
 pub mod giving;
 mod handle;
+mod holding;
 pub mod instructing;
 pub mod journals;
 pub mod learning;

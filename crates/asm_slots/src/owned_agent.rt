@@ -139,30 +139,30 @@ impl OwnedAgent {
     pub(crate) fn fire(
         &mut self,
         alloc: Global,
-        reads: &Items<Named>,
-        instrs: &Instructions,
+        reads: Items<Named>,
+        instrs: Instructions,
     ) -> Result<Reply, FireError>
         ensures answered { HasAnswered result self.old self.new }
-        ensures replied { IfOk result (IsReplied meaning self.old self.new reads.now instrs.now) }
-        ensures coherent { IfOk result (IsCoherentReply meaning self.new reads.now instrs.now) }
-        ensures many { IsErrOf result ManyReads ↔ (reads_limit < length reads.now) }
+        ensures replied { IfOk result (IsReplied meaning self.old self.new reads instrs) }
+        ensures coherent { IfOk result (IsCoherentReply meaning self.new reads instrs) }
+        ensures many { IsErrOf result ManyReads ↔ (reads_limit < length reads) }
     {
-        self.part.try_fire_over(alloc, &self.shared.storage, reads, &[], instrs, &mut || {})
+        self.part.try_fire_owned(alloc, &self.shared.storage, reads, &[], instrs, &mut || {})
     }
 
     /// Fire the move, so that it depends on the scanned functions too.
     pub(crate) fn fire_over(
         &mut self,
         alloc: Global,
-        reads: &Items<Named>,
+        reads: Items<Named>,
         scans: &[Scanned],
-        instrs: &Instructions,
+        instrs: Instructions,
     ) -> Result<Reply, FireError>
         ensures answered { HasAnswered result self.old self.new }
-        ensures replied { IfOk result (IsRepliedOver self.old self.new reads.now scans.now instrs.now) }
-        ensures many { IsErrOf result ManyReads ↔ (reads_limit < length reads.now + length scans.now) }
+        ensures replied { IfOk result (IsRepliedOver self.old self.new reads scans.now instrs) }
+        ensures many { IsErrOf result ManyReads ↔ (reads_limit < length reads + length scans.now) }
     {
-        self.part.try_fire_over(
+        self.part.try_fire_owned(
             alloc,
             &self.shared.storage,
             reads,

@@ -12,9 +12,9 @@ ghost use Rattle.asm_transaction.specs.Tracked.{refusal_places};
 
 use crate::codes::{Code, write};
 use crate::composing::{Refusal, clash_text, large_text};
+use crate::holding::held_move;
 use crate::lend;
 use crate::owned_agent::OwnedAgent;
-use crate::parsing::move_of;
 use crate::slot::Slot;
 use asm_step::StepError;
 use asm_transaction::{Transaction, refusal_places};
@@ -135,7 +135,7 @@ pub fn grow_of(
     *written = 0;
     lend!(agent: Agent = agent, Err(Code::Empty));
     lend!(step: Step = step, Err(Code::Empty));
-    let instrs = move_of(alloc, instrs)?;
+    let instrs = held_move(alloc, agent.state(), instrs)?;
     grow_by(alloc, agent, step, way, &instrs, out, written)
 }
 

@@ -9,16 +9,16 @@ ghost use Rattle.asm_slots.specs.Slots.{Holds, Lacks, an_agent, content_of};
 ghost use Rattle.asm_slots.specs.WrittenText.{IsWritten};
 
 use crate::codes::{Code, write};
+use crate::holding::{held_fire, held_locations};
 use crate::lend;
 use crate::long_lines::expect_fire;
 use crate::owned_agent::OwnedAgent;
-use crate::parsing::locations_of;
 use crate::reading_scans::scans_of;
 use crate::slot::Slot;
 use crate::take_and_put::{put_agent, take_agent};
 use asm_element::Location;
-use asm_explain::{Fire, fire_of};
-use asm_state::Scanned;
+use asm_explain::Fire;
+use asm_state::{Scanned, State};
 use asm_storage::{FireError, ReadError, Reply};
 use std::alloc::Global;
 
@@ -32,7 +32,7 @@ fn locations_to_read(
     ensures short { OnOk result (IsShortRead locations.now agent.now) }
     ensures err { IfErr result (IsNoRead locations.now agent.now) }
 {
-    let locations = locations_of(alloc, locations)?;
+    let locations = held_locations(alloc, agent.state(), locations)?;
     agent.expect_read(alloc, &locations)?;
     Ok(locations)
 }
@@ -141,14 +141,12 @@ fn fire_in(
     requires { numbers.old ≡ no_numbers }
     ensures { Fires call.now agent.old agent.new numbers.new result }
 {
-    let fire = fire_of(alloc, call)?;
+    let fire = held_fire(alloc, agent.state(), call)?;
     if agent.is_behind(fire.reads.as_slice()) {
         return Err(Code::Ahead);
     }
     expect_fire(alloc, fire.reads.as_slice(), fire.instrs.as_slice())?;
-    // The receipt then shares the reads instead of copying them.
-    let reads = fire.reads.share(alloc)?;
-    report(agent.fire(alloc, &reads, &fire.instrs), numbers)
+    report(agent.fire(alloc, fire.reads, fire.instrs), numbers)
 }
 
 /// Do what `asm_try_fire` does.
@@ -161,11 +159,16 @@ pub fn fire(alloc: Global, agent: &mut Slot, call: &[u8], numbers: &mut Numbers)
 }
 
 // Read the move of the one text, and the scans of the other.
-fn fire_over_of(alloc: Global, call: &[u8], scans: &[u8]) -> Result<(Fire, Vec<Scanned>), Code>
+fn fire_over_of(
+    alloc: Global,
+    state: &State,
+    call: &[u8],
+    scans: &[u8],
+) -> Result<(Fire, Vec<Scanned>), Code>
     ensures ok { IfOk result (λ p. ReadAsFireOver call.now scans.now p.0.reads p.1.items p.0.instrs) }
     ensures err { IfErr result (AreMisread IsFireForm AreScans call.now scans.now) }
 {
-    let fire = fire_of(alloc, call)?;
+    let fire = held_fire(alloc, state, call)?;
     let scans = scans_of(alloc, scans)?;
     Ok((fire, scans))
 }
@@ -180,15 +183,13 @@ fn fire_over_in(
     requires { numbers.old ≡ no_numbers }
     ensures { FiresOver call.now scans.now agent.old agent.new numbers.new result }
 {
-    let (fire, scans) = fire_over_of(alloc, call, scans)?;
+    let (fire, scans) = fire_over_of(alloc, agent.state(), call, scans)?;
     if agent.is_behind_over(fire.reads.as_slice(), &scans) {
         return Err(Code::Ahead);
     }
     expect_fire(alloc, fire.reads.as_slice(), fire.instrs.as_slice())?;
-    // The receipt then shares the reads instead of copying them.
-    let reads = fire.reads.share(alloc)?;
     report(
-        agent.fire_over(alloc, &reads, &scans, &fire.instrs),
+        agent.fire_over(alloc, fire.reads, &scans, fire.instrs),
         numbers,
     )
 }

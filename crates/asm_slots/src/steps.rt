@@ -12,6 +12,7 @@ ghost use Rattle.asm_transaction.specs.Reading.{HasTracked, IsOf, IsShown, IsUnr
 
 use crate::codes::{Code, copy_into, fit, write};
 use crate::content::Content;
+use crate::holding::held_locations;
 use crate::lend;
 use crate::own_state::value_at;
 use crate::owned_agent::OwnedAgent;
@@ -111,7 +112,7 @@ fn get_in(
     ensures tracked { OnOk result (HasTrackedBy locations.now step.old step.new) }
     ensures stays { OnErr result (step.new ≡ step.old) }
 {
-    let locations = locations_of(alloc, locations)?;
+    let locations = held_locations(alloc, agent.state(), locations)?;
     let text = seen_text(alloc, agent, step, &locations)?;
     fit(text.as_bytes(), out, written)?;
     step.track(alloc, locations)?;

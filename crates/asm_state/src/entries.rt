@@ -1,5 +1,5 @@
 //! What a state keeps of the locations that moves wrote.
-ghost use Rattle.std.specs.Prelude.{◌≡◌, IfOk, IfErr, IsTrue, OnOk, OnErr, Some, Err, false};
+ghost use Rattle.std.specs.Prelude.{◌≡◌, ◌↔◌, IfOk, IfErr, IfSome, IsNone, IsTrue, OnOk, OnErr, None, Some, Err, false};
 ghost use Rattle.asm_update.specs.Aggregator.{IsOutcome};
 ghost use Rattle.asm_state.specs.Change.{IsChanged};
 ghost use Rattle.asm_state.specs.declared.entries.WrittenValue.{WrittenValue};
@@ -167,6 +167,17 @@ impl Entries {
         ensures { option_copied result ≡ map.get self.now at.now }
     {
         self.tree.get(at)
+    }
+
+    /// Return the location of an entry as the entry has it.
+    pub(crate) fn location_of(&self, at: &Location) -> Option<&Location>
+        ensures same { IfSome result (λ held. held.now ≡ at.now) }
+        ensures none { IsNone result ↔ (map.get self.now at.now ≡ None) }
+    {
+        match self.tree.get_key_value(at) {
+            Some((held, _)) => Some(held),
+            None => None,
+        }
     }
 
     pub(crate) fn iter(&self) -> Iter<'_, Location, WrittenValue>

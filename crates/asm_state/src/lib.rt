@@ -5,6 +5,7 @@
 #![tactic(auto)]
 
 mod entries;
+mod holding;
 mod in_place;
 pub mod laws;
 mod listed;

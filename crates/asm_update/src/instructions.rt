@@ -1,5 +1,5 @@
 ghost use Rattle.std.specs.Prelude.{◌≡◌, ◌+◌, ◌<◌, ◌≤◌, ◌++◌, ◌∷◌, [], ◌↔◌, length, All, IsTrue};
-ghost use Rattle.std.specs.Prelude.{OnOk, OnErr, IfOk, Some, Err, slice_get, vec_len};
+ghost use Rattle.std.specs.Prelude.{OnOk, OnErr, IfOk, Some, Err, option_map, slice_get, vec_len};
 ghost use Rattle.std.specs.Arc.{arc_value};
 ghost use Rattle.std.specs.Slice.Iter.{iter_rest};
 ghost use Rattle.std.specs.Cmp.{partial_equiv_from_equiv};
@@ -12,6 +12,7 @@ ghost use Rattle.asm_update.specs.declared.instructions.InstructionsError.TheVar
 
 use crate::action::{Action, Instruction};
 use crate::proper::{proper_instruction, proper_instructions};
+use asm_element::Location;
 use std::alloc::{AllocError, AllocFailed, Global};
 use std::marker::Model;
 use std::slice;
@@ -24,9 +25,7 @@ pub const INSTRUCTIONS_LIMIT: usize = 4096;
 /// Why instructions aren't appended.
 #[derive(Clone, Copy, Debug, PartialEq, Eq, Error)]
 pub enum InstructionsError {
-    /// There would be more than 4,096 instructions.
-    ///
-    /// This is found before memory is asked for.
+    /// There would be more than 4,096 instructions; this is found before memory is asked for.
     #[error("more than 4,096 instructions")]
     ManyInstructions,
     /// The memory that the call asked for was refused.
@@ -145,6 +144,50 @@ fn join(alloc: Global, first: &Instruction, others: &Instructions) -> Result<Hel
     Ok(Held::Many(Arc::new(alloc, list)?))
 }
 
+// Returns how a list is held.
+fn hold_list(alloc: Global, items: Vec<Instruction>) -> Result<Held, AllocError>
+    ensures { IfOk result (λ held. held_items held ≡ items.items) }
+{
+    let mut items = items;
+    if items.len() > 1 {
+        return Ok(Held::Many(Arc::new(alloc, items)?));
+    }
+    match items.pop() {
+        Some(only) => Ok(Held::One(Arc::new(alloc, only)?)),
+        None => Ok(Held::Nothing),
+    }
+}
+
+// Puts a location in the place of the equal one.
+fn hold_in(items: &mut [Instruction], i: usize, at: Location)
+    requires { option_map (λ x. x.at) (slice_get items.old i) ≡ Some at }
+    ensures { items.new ≡ items.old }
+{
+    if i < items.len() {
+        items[i].at = at;
+    }
+}
+
+// Puts a location in the place of the equal one, unless copies share the instruction.
+fn hold_only(only: &mut Arc<Instruction>, at: Location)
+    requires { (arc_value only.old).at ≡ at }
+    ensures { arc_value only.new ≡ arc_value only.old }
+{
+    if let Some(own) = Arc::get_mut(only) {
+        own.at = at;
+    }
+}
+
+// Puts a location in the place of the equal one, unless copies share the list.
+fn hold_listed(list: &mut Arc<Vec<Instruction>>, i: usize, at: Location)
+    requires { option_map (λ x. x.at) (slice_get (arc_value list.old).items i) ≡ Some at }
+    ensures { (arc_value list.new).items ≡ (arc_value list.old).items }
+{
+    if let Some(own) = Arc::get_mut(list) {
+        hold_in(own.as_mut_slice(), i, at);
+    }
+}
+
 impl Instructions {
     /// Return the empty list of instructions.
     pub fn new(alloc: Global) -> Self
@@ -184,7 +227,7 @@ impl Instructions {
             return Err(InstructionsError::ManyInstructions);
         }
         proper_instructions(items.as_slice());
-        let held = Held::Many(Arc::new(alloc, items)?);
+        let held = hold_list(alloc, items)?;
         Ok(Instructions { held, alloc })
     }
 
@@ -230,10 +273,9 @@ impl Instructions {
         Ok(())
     }
 
-    /// Append the instructions of another move.
+    /// Append the instructions of another move: the result is the union of the two multisets.
     ///
-    /// The result is the union of the two multisets. If this list is empty, it shares that of `other` from then on,
-    /// which takes no memory.
+    /// If this list is empty, it shares that of `other` from then on, which takes no memory.
     ///
     /// # Errors
     ///
@@ -257,6 +299,18 @@ impl Instructions {
             Held::Many(list) => append_to(list, other.as_slice())?,
         }
         Ok(())
+    }
+
+    /// Hold this location in the place of an instruction's equal one, unless copies of the list share the instruction.
+    pub fn hold(&mut self, i: usize, at: Location)
+        requires { option_map (λ x. x.at) (slice_get self.old i) ≡ Some at }
+        ensures { self.new ≡ self.old }
+    {
+        match &mut self.held {
+            Held::Nothing => {}
+            Held::One(only) => hold_only(only, at),
+            Held::Many(list) => hold_listed(list, i, at),
+        }
     }
 
     /// Return the instruction at a place, counted from 0.
@@ -288,9 +342,7 @@ impl Instructions {
         let _ = &self.held;
     }
 
-    /// Return the same instructions, which both share until one of them grows.
-    ///
-    /// It takes no memory.
+    /// Return the same instructions, which both share until one of them grows, so that it takes no memory.
     ///
     /// # Errors
     ///

@@ -1,4 +1,4 @@
-ghost use Rattle.std.specs.Prelude.{◌≡◌, ◌↔◌, IsNone, IsTrue, IsOk, None, OnOk, OnErr, IfOk, IfErr, Err, false};
+ghost use Rattle.std.specs.Prelude.{◌≡◌, ◌↔◌, IsNone, IsTrue, IsOk, None, OnOk, OnErr, IfOk, IfErr, IfSome, Err, false};
 ghost use Rattle.std.specs.Option.{option_copied};
 ghost use Rattle.std.specs.BTreeMap.Range.{entries_between};
 ghost use Rattle.std.specs.declared.ops.Bound.TheVariants.{Included, Unbounded};
@@ -99,6 +99,17 @@ impl PlainState {
         ensures none { IsNone result ↔ (state.val self.now at.now ≡ held.undef) }
     {
         self.values.get(at)
+    }
+
+    /// Return the location as the state holds it; None exactly where it is undef.
+    pub fn location_of(&self, at: &Location) -> Option<&Location>
+        ensures same { IfSome result (λ held. held.now ≡ at.now) }
+        ensures none { IsNone result ↔ (map.get self.now at.now ≡ None) }
+    {
+        match self.values.get_key_value(at) {
+            Some((held, _)) => Some(held),
+            None => None,
+        }
     }
 
     /// Give a location this value; undef takes the location out.

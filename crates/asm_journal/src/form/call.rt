@@ -110,7 +110,7 @@ fn read_fire(alloc: Global, instrs: &Json, reads: &Json) -> Result<Call, FormErr
     let instrs = Instructions::from_json(alloc, instrs).at("fire")?;
     let reads = Listed::<Named>::from_json(alloc, reads).at("reads")?;
     Ok(Call::Fire {
-        reads: Items::new(reads.into_vec()),
+        reads: Items::packed(reads.into_vec()),
         instrs,
     })
 }
@@ -120,7 +120,7 @@ fn read_read(alloc: Global, locations: &Json) -> Result<Call, FormError>
     ensures { IsRead IsCallForm (one_of (codes "read") (view locations.now)) result }
 {
     let locations = Listed::<Location>::from_json(alloc, locations).at("read")?;
-    Ok(Call::Read(Items::new(locations.into_vec())))
+    Ok(Call::Read(Items::packed(locations.into_vec())))
 }
 
 impl FromJson for Call {

@@ -49,7 +49,7 @@ fn front_read(alloc: Global, text: &[u8]) -> Option<(Call, &[u8])>
     let inside = behind(text, b"{\"read\":")?;
     let (locations, left) = Listed::<Location>::from_front(alloc, inside)?;
     let rest = behind(left, b"}")?;
-    Some((Call::Read(Items::new(locations.into_vec())), rest))
+    Some((Call::Read(Items::packed(locations.into_vec())), rest))
 }
 
 /// Return the fire.
@@ -61,7 +61,7 @@ fn front_fire(alloc: Global, text: &[u8]) -> Option<(Call, &[u8])>
     let second = behind(left, b",\"reads\":")?;
     let (listed, end) = Listed::<Named>::from_front(alloc, second)?;
     let rest = behind(end, b"}")?;
-    let reads = Items::new(listed.into_vec());
+    let reads = Items::packed(listed.into_vec());
     Some((Call::Fire { reads, instrs }, rest))
 }
 

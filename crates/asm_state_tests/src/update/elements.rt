@@ -196,7 +196,7 @@ fn a_clone_of_a_shared_list_clones_no_item(rt: HostRuntime) -> Result<(), Fail> 
     let alloc = rt.alloc();
     let list = Items::shared(alloc, vec![in alloc; Unclonable, Unclonable]?)?;
     assert_eq!(rt; list.clone()?.as_slice().len(), 2);
-    let list = Items::new(vec![in alloc; Unclonable]?);
-    assert_eq!(rt; list.share(alloc)?.clone()?.as_slice().len(), 1);
+    let none: Items<Unclonable> = Items::shared(alloc, Vec::new(alloc))?;
+    assert_eq!(rt; none.clone()?.as_slice().len(), 0);
     Ok(())
 }

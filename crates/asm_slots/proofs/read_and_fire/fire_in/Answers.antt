@@ -1,7 +1,6 @@
-use Rattle.std.proofs.Common.{◌∙◌, Err, List, ap, inl, inr, length, refl, subst, sym}
+use Rattle.std.proofs.Common.{◌∙◌, Err, List, ap, inl, inr, length, refl, sym}
 use Rattle.std.proofs.lemmas.Result.{err_from_is_err_and}
 use Rattle.asm_state.specs.declared.named.Named.{Named}
-use Rattle.asm_explain.specs.Bytes.{ReadAsFire}
 use Rattle.asm_slots.specs.AgentAnswers.{HasTriedFire, is_any_above}
 use Rattle.asm_slots.specs.declared.codes.Code.{Code}
 use Rattle.asm_slots.specs.declared.codes.Code.TheVariants as code
@@ -37,13 +36,12 @@ returns c =
     let fired = c.fire in
     let seen = length c.args.agent.now.account.seen in
     let tried : HasTriedFire c.args.call.now fired.result c.args.agent.now fired.new.self = record {
-      reads = c.in_ok-reads.reads;
+      reads = fire.reads;
       move = fire.instrs;
-      read = subst (λ (rs : List Named). ReadAsFire c.args.call.now rs fire.instrs) (sym c.in_ok-reads.ensures) c.in_ok-fire.ensures.ok;
-      within = ap (λ (rs : List Named). is_any_above rs seen) (c.in_ok-reads.ensures ∙ sym c.as_slice.ensures)
+      read = c.in_ok-fire.ensures.ok;
+      within = ap (λ (rs : List Named). is_any_above rs seen) (sym c.as_slice.ensures)
           ∙ sym c.is_behind.ensures ∙ c.if-is_behind.false;
-      short = short_as c.in_ok-reads.reads _ fire.instrs _ (c.as_slice-2.ensures ∙ sym c.in_ok-reads.ensures) c.as_slice-3.ensures
-          c.in_ok-expect_fire.ensures;
+      short = short_as fire.reads _ fire.instrs _ c.as_slice-2.ensures c.as_slice-3.ensures c.in_ok-expect_fire.ensures;
       many = fired.ensures.many;
       replied = fired.ensures.replied;
       coherent = fired.ensures.coherent;

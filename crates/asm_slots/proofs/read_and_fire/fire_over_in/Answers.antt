@@ -5,7 +5,7 @@ use Rattle.asm_state.specs.declared.scanned.Scanned.{Scanned}
 use Rattle.asm_storage.specs.Limits.{reads_limit}
 use Rattle.asm_storage.specs.declared.error.FireError.TheVariants.{ManyReads}
 use Rattle.asm_slots.specs.AgentCalls.{IsRepliedOver}
-use Rattle.asm_slots.specs.AgentAnswers.{ReadAsFireOver, is_any_over}
+use Rattle.asm_slots.specs.AgentAnswers.{is_any_over}
 use Rattle.asm_slots.specs.declared.codes.Code.{Code}
 use Rattle.asm_slots.specs.declared.codes.Code.TheVariants as code
 use Rattle.asm_slots.proofs.ShortLines.{long_as, not_tried_over, short_as}
@@ -58,17 +58,17 @@ pub returns : goal.returns
 returns c =
     let fire = c.in_ok-fire.fire in
     let over = c.in_ok-fire.scans.items in
-    let reads = c.in_ok-reads.reads in
+    let reads = fire.reads in
     let fired = c.fire_over in
     let seen = length c.args.agent.now.account.seen in
     inl (
       fired.result,
       tried_over c.args.call.now c.args.scans.now c.args.agent.now fired.new.self reads over fire.instrs fired.result
-          (subst (λ (rs : List Named). ReadAsFireOver c.args.call.now c.args.scans.now rs over fire.instrs) (sym c.in_ok-reads.ensures) c.in_ok-fire.ensures.ok)
-          (ap (λ (rs : List Named). is_any_over rs over seen) (c.in_ok-reads.ensures ∙ sym c.as_slice.ensures)
+          c.in_ok-fire.ensures.ok
+          (ap (λ (rs : List Named). is_any_over rs over seen) (sym c.as_slice.ensures)
           ∙ ap (λ (os : List Scanned). is_any_over c.as_slice.result.now os seen) (sym c.deref.ensures.value)
           ∙ sym c.is_behind_over.ensures ∙ c.if-is_behind_over.false)
-          (short_as reads _ fire.instrs _ (c.as_slice-2.ensures ∙ sym c.in_ok-reads.ensures) c.as_slice-3.ensures c.in_ok-expect_fire.ensures)
+          (short_as reads _ fire.instrs _ c.as_slice-2.ensures c.as_slice-3.ensures c.in_ok-expect_fire.ensures)
           (subst (λ (os : List Scanned). IsErrOf fired.result ManyReads ↔ (reads_limit < length reads + length os)) c.deref-2.ensures.value fired.ensures.many)
           (subst (λ (os : List Scanned). IfOk fired.result (IsRepliedOver c.args.agent.now fired.new.self reads os fire.instrs)) c.deref-2.ensures.value fired.ensures.replied)
           fired.ensures.answered,

@@ -26,4 +26,4 @@ returns c =
     let n = view c.args.reads.now in
     let move = carried_ok IsMoveForm m _ c.in_ok-instrs.instrs c.from_json.ensures c.in_ok-instrs.ensures.carried in
     let reads = carried_ok (IsListForm IsNamedForm) n _ c.in_ok-reads.reads c.from_json-2.ensures c.in_ok-reads.ensures.carried in
-    (m, n, refl, move, subst (λ l. IsListForm IsNamedForm l n) (sym (c.new.ensures ∙ c.into_vec.ensures)) reads)
+    (m, n, refl, move, subst (λ l. IsListForm IsNamedForm l n) (sym (c.packed.ensures ∙ c.into_vec.ensures)) reads)

@@ -17,4 +17,4 @@ pub returns : goal.returns
 returns c =
     let d = view c.args.locations.now in
     let read = carried_ok (IsListForm IsLocationForm) d _ c.in_ok-locations.locations c.from_json.ensures c.in_ok-locations.ensures.carried in
-    (d, refl, subst (λ l. IsListForm IsLocationForm l d) (sym (c.new.ensures ∙ c.into_vec.ensures)) read)
+    (d, refl, subst (λ l. IsListForm IsLocationForm l d) (sym (c.packed.ensures ∙ c.into_vec.ensures)) read)

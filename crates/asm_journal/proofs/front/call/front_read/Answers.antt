@@ -9,6 +9,6 @@ pub returns : goal.returns
 returns c =
     let text = c.args.text.now in
     let rest = c.in_ok-rest.rest.now in
-    subst (λ ls. BeginsAs IsCallForm text (call.Read ls) rest) (sym (c.new.ensures ∙ c.into_vec.ensures))
+    subst (λ ls. BeginsAs IsCallForm text (call.Read ls) rest) (sym (c.packed.ensures ∙ c.into_vec.ensures))
     (read_begins text c.in_ok-inside.inside.now c.in_ok-locations.left.now rest c.in_ok-locations.locations c.in_ok-inside.ensures
     c.in_ok-locations.ensures c.in_ok-rest.ensures)

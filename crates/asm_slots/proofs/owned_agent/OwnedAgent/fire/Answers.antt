@@ -11,12 +11,12 @@ use Rattle.asm_slots.proofs.owned_agent.OwnedAgent.fire.Goals as goal
 pub returns : goal.returns
 unfolding standard_meaning
 returns c =
-    let fired = c.try_fire_over in
+    let fired = c.try_fire_owned in
     let storage = (arc_value c.self.inside.shared).storage in
     let lent : c.deref.result.now.storage ≡ storage = ap (λ (s : Shared). s.storage) c.deref.ensures in
-    let is : IsFire meaning c.args.self.now (agent_of storage fired.new.self) c.args.reads.now c.args.instrs.now fired.result =
-    part_fires storage c.deref.result.now.storage c.self.inside.part fired.new.self c.args.self.now c.args.reads.now
-    c.args.instrs.now fired.result lent c.self.view_is fired.ensures.fire in
+    let is : IsFire meaning c.args.self.now (agent_of storage fired.new.self) c.args.reads c.args.instrs fired.result =
+    part_fires storage c.deref.result.now.storage c.self.inside.part fired.new.self c.args.self.now c.args.reads
+    c.args.instrs fired.result lent c.self.view_is fired.ensures.fire in
     record {
       answered = record {
         same = is.same;
@@ -33,6 +33,6 @@ returns c =
       many = is.many;
     }
 
-pub try_fire_over-requires-clause-part : goal.try_fire_over-requires-clause-part
+pub try_fire_owned-requires-clause-part : goal.try_fire_owned-requires-clause-part
 unfolding standard_meaning
-try_fire_over-requires-clause-part c κs = lent _ _ c.self.inside.part c.deref.ensures c.self.invariant
+try_fire_owned-requires-clause-part c κs = lent _ _ c.self.inside.part c.deref.ensures c.self.invariant

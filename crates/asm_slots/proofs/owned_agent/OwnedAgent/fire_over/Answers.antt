@@ -11,12 +11,12 @@ use Rattle.asm_slots.proofs.owned_agent.OwnedAgent.fire_over.Goals as goal
 pub returns : goal.returns
 unfolding standard_meaning
 returns c =
-    let fired = c.try_fire_over in
+    let fired = c.try_fire_owned in
     let storage = (arc_value c.self.inside.shared).storage in
     let lent : c.deref.result.now.storage ≡ storage = ap (λ (s : Shared). s.storage) c.deref.ensures in
     let new = agent_of storage fired.new.self in
-    let is : IsFireOver meaning c.args.self.now new c.args.reads.now c.args.scans.now c.args.instrs.now fired.result =
-    of_part (λ x y. IsFireOver meaning x y c.args.reads.now c.args.scans.now c.args.instrs.now fired.result) storage
+    let is : IsFireOver meaning c.args.self.now new c.args.reads c.args.scans.now c.args.instrs fired.result =
+    of_part (λ x y. IsFireOver meaning x y c.args.reads c.args.scans.now c.args.instrs fired.result) storage
     c.deref.result.now.storage c.self.inside.part fired.new.self c.args.self.now lent c.self.view_is fired.ensures.fire in
     record {
       answered = record {
@@ -29,10 +29,10 @@ returns c =
         missed = is.missed;
         lost = is.lost;
       };
-      replied = replied_over c.args.self.now new c.args.reads.now c.args.scans.now c.args.instrs.now fired.result is;
+      replied = replied_over c.args.self.now new c.args.reads c.args.scans.now c.args.instrs fired.result is;
       many = is.many;
     }
 
-pub try_fire_over-requires-clause-part : goal.try_fire_over-requires-clause-part
+pub try_fire_owned-requires-clause-part : goal.try_fire_owned-requires-clause-part
 unfolding standard_meaning
-try_fire_over-requires-clause-part c κs = lent _ _ c.self.inside.part c.deref.ensures c.self.invariant
+try_fire_owned-requires-clause-part c κs = lent _ _ c.self.inside.part c.deref.ensures c.self.invariant

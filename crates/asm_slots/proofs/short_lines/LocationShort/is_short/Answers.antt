@@ -1,4 +1,4 @@
-use Rattle.std.proofs.Common.{◌≤◌, ◌∙◌, subst, sym, arith}
+use Rattle.std.proofs.Common.{◌≤◌, subst}
 use Rattle.std.specs.Prelude.{All}
 use Rattle.asm_element.specs.declared.element.Element.{Element}
 use Rattle.asm_journal.specs.Element.{element_json_of}
