@@ -1,5 +1,5 @@
 -- Calls that refuse a line that is too long, or could be.
-use Rattle.std.proofs.Common.{◌≡◌, ◌⊎◌, ◌∙◌, ℕ, List, [], Option, None, Some, Result, Ok, Err, IfOk, ap, inl, inr, map, refl, subst, sym, unwrap_or, append-nil}
+use Rattle.std.proofs.Common.{◌≡◌, ◌⊎◌, ◌∙◌, ℕ, List, [], Option, None, Some, Result, Ok, Err, ap, inl, inr, map, refl, subst, sym, unwrap_or, append-nil}
 use Rattle.std.specs.Prelude.{MatchResult}
 use mathlib.Core.List.{map-id}
 use Rattle.asm_element.specs.Place.{Place}
@@ -24,7 +24,7 @@ use Rattle.asm_slots.specs.AgentCalls.{IsNoCapacity, ReportsFire, no_numbers}
 use Rattle.asm_slots.specs.Answers.{IsUnreadAs}
 use Rattle.asm_slots.specs.Bytes.{ReadAsLocations, ReadAsState}
 use Rattle.asm_slots.specs.ClosedJournal.{Leaves}
-use Rattle.asm_slots.specs.Commit.{FiresOrIsLong, IsLong, IsLongToRecord, IsShortToRecord}
+use Rattle.asm_slots.specs.Commit.{FiresOrIsLong, IsFitting, IsLong, IsLongToRecord, IsShortToRecord}
 use Rattle.asm_slots.specs.LongLines.{IsLongFire, IsLongRead, IsLongState, LongOr}
 use Rattle.asm_slots.specs.NextStore.{DoesNotGoOn, EndsLong, DoesNotContinue, IsAtEnd, IsNotNext, IsNotOpened, OwnsLong}
 use Rattle.asm_slots.specs.OwnState.{state_at}
@@ -75,10 +75,6 @@ not_tried_over call scans a reads over M _ read why = absurd why
 
 -- ---- commits
 
-if_fired : (P : Type 0) (answer : Result Reply FireError) → P → IfOk answer (λ k. P)
-if_fired P (Ok k) is = is
-if_fired P (Err e) is = tt
-
 pub is_long : (t : TransactionView) (reads : List Named) (M : Move) (c : Code) → NamesAll t reads → M ≡ unwrap_or (one_move t.layers) [] →
     LongOr (IsLongFire reads M) c → LongOr (IsLong t) c
 is_long t reads M c names one why = long_or _ _ c (λ long. (reads, M, names, one, long)) why
@@ -88,16 +84,20 @@ pub is_long_to_record : (a : AgentAt Standard) (t : TransactionView) (reads : Li
     LongOr (IsLong t ⊎ IsLongToRecord a t) c
 is_long_to_record a t reads M c names one why = long_or _ _ c (λ long. inr (reads, M, names, one, long)) why
 
+fitting : (IsFit : Type 0) (a b : AgentAt Standard) (answer : Result Reply FireError) → IsFit → IsFitting IsFit a b answer
+fitting IsFit a b (Ok k) fit = fit
+fitting IsFit a b (Err e) fit = inl fit
+
 pub fires_short : (Has : Result Reply FireError → Type 0) (IsFit IsRefused : Type 0) (a b : AgentAt Standard)
     (answer : Result Reply FireError) (n : Numbers) (r : Result (Unit {0}) Code) → IsFit → Has answer → ReportsFire answer n r →
     FiresOrIsLong Has IsFit IsRefused a b n r
-fires_short Has IsFit IsRefused a b answer n r fit has reports = inl (answer, has, if_fired IsFit answer fit, reports)
+fires_short Has IsFit IsRefused a b answer n r fit has reports = inl (answer, has, fitting IsFit a b answer fit, reports)
 
 pub fires_nothing : (Has : Result Reply FireError → Type 0) (IsFit IsRefused : Type 0) (a : AgentAt Standard) (c : Code) (n : Numbers)
     (r : Result (Unit {0}) Code) → LongOr IsRefused c → Has (Err fire_error.Memory) → n ≡ no_numbers → r ≡ Err c →
     FiresOrIsLong Has IsFit IsRefused a a n r
 fires_nothing Has IsFit IsRefused a code.LongLine n r why has none is = inr (refl, none, is, why)
-fires_nothing Has IsFit IsRefused a code.Memory n r why has none is = inl (Err fire_error.Memory, has, tt, (is, none))
+fires_nothing Has IsFit IsRefused a code.Memory n r why has none is = inl (Err fire_error.Memory, has, inr refl, (is, none))
 fires_nothing Has IsFit IsRefused a _ n r why has none is = absurd why
 
 pub records_nothing : (a : AgentAt Standard) (t : TransactionView) (e : FireError) → IsUnprepared t e → Records meaning a a t (Err e)
@@ -105,7 +105,7 @@ records_nothing a t e why = inr (e, refl, unprepared a t e why)
 
 pub reports_unrecorded : (a : AgentAt Standard) (t : TransactionView) (e : FireError) (n : Numbers) (r : Result (Unit {0}) Code) →
     IsUnprepared t e → ReportsFire (Err e) n r → FiresOrIsLong (Records meaning a a t) (IsShortToRecord a t) (IsLong t ⊎ IsLongToRecord a t) a a n r
-reports_unrecorded a t e n r why reports = inl (Err e, records_nothing a t e why, tt, reports)
+reports_unrecorded a t e n r why reports = inl (Err e, records_nothing a t e why, inr refl, reports)
 
 -- ---- reads
 

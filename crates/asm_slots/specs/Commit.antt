@@ -1,5 +1,5 @@
 -- What the commit of the transaction in a slot does.
-use Rattle.std.specs.Prelude.{◌≡◌, ◌⊎◌, ℕ, List, [], map, unwrap_or, IfOk, Option, Result, Err}
+use Rattle.std.specs.Prelude.{◌≡◌, ◌⊎◌, ℕ, List, [], map, unwrap_or, MatchResult, Option, Result, Err}
 use Rattle.asm_update.specs.Move.{Move}
 use Rattle.asm_state.specs.declared.named.Named.{Named}
 use Rattle.asm_step.specs.Layers.{one_move}
@@ -43,11 +43,15 @@ IsLongToRecord a = Declares (λ reads M. IsLongOwnRead (map (λ r. r.at) reads) 
 abbrev pub IsShortToRecord : AgentAt Standard → TransactionView → Type 0
 IsShortToRecord a = Declares (λ reads M. ¬ IsLongFire reads M × ¬ IsLongOwnRead (map (λ r. r.at) reads) a)
 
+-- it is short if it is answered, and also with an error unless it leaves no receipt
+abbrev pub IsFitting : Type 0 → AgentAt Standard → AgentAt Standard → Result Reply FireError → Type 0
+IsFitting IsFit old new answer = MatchResult answer (λ k. IsFit) (λ e. IsFit ⊎ (new.account.receipts ≡ old.account.receipts))
+
 -- a commit has this answer, which the call reports, and is short; or it is refused, and nothing changes
 abbrev pub FiresOrIsLong : (Result Reply FireError → Type 0) → Type 0 → Type 0 → AgentAt Standard → AgentAt Standard → Numbers →
     Result (Unit {0}) Code → Type 0
 FiresOrIsLong Has IsFit IsRefused old new n r =
-    ((answer : Result Reply FireError) × Has answer × IfOk answer (λ k. IsFit) × ReportsFire answer n r)
+    ((answer : Result Reply FireError) × Has answer × IsFitting IsFit old new answer × ReportsFire answer n r)
     ⊎ ((new ≡ old) × (n ≡ no_numbers) × (r ≡ Err code.LongLine) × IsRefused)
 
 -- the commit of the transaction, if it is one of the agent, has this answer
