@@ -20,5 +20,6 @@ pub mod MembersOfSteps
 pub mod CountsOfSteps
 pub mod StandingSteps
 pub mod LineRooms
+pub mod FittingLines
 pub mod ShortLines
 pub mod ShortParts

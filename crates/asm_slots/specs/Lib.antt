@@ -25,6 +25,7 @@ pub mod StepAnswers
 pub mod Commit
 pub mod Kinds
 pub mod LongLines
+pub mod FittingLines
 pub mod PushAnswers
 pub mod Popping
 pub mod ReadMoves

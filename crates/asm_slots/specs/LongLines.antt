@@ -1,9 +1,10 @@
 -- Fires, reads and states whose lines in a journal would be, or could be, longer than an audit reads.
-use Rattle.std.specs.Prelude.{◌≡◌, ◌<◌, ◌+◌, ◌-◌, max, ℕ, List, [], ◌∷◌, length, map, Option, None, Some, Result, Ok, Err}
+use Rattle.std.specs.Prelude.{◌≡◌, ◌<◌, ◌+◌, ◌-◌, ◌*◌, max, ℕ, List, [], ◌∷◌, length, map, Option, None, Some, Result, Ok, Err}
 use Rattle.std.specs.declared.alloc.AllocError.{AllocError}
 use Rattle.std.specs.FinMap as finite
 use Rattle.serde_json.specs.Data.{Data}
 use Rattle.serde_json.specs.Written.{compact_text}
+use Rattle.asm_element.specs.Limits.{args_limit, name_limit}
 use Rattle.asm_element.specs.Place.{Place}
 use Rattle.asm_update.specs.Fire.{Old}
 use Rattle.asm_update.specs.Move.{Move}
@@ -17,7 +18,8 @@ use Rattle.asm_audit.specs.Limits.{line_limit}
 use Rattle.asm_slots.specs.declared.codes.Code.{Code}
 use Rattle.asm_slots.specs.declared.codes.Code.TheVariants as code
 
--- the most that a line has besides what is counted here: the names of members, the numbers and the signs around them
+-- room for what a line has besides what is counted here, at most 75 bytes: the names of members, the numbers and the signs
+-- around them
 abbrev pub line_room : ℕ
 line_room = 120
 
@@ -79,22 +81,22 @@ LongOr IsLong code.LongLine = IsLong
 LongOr IsLong code.Memory = Unit {0}
 LongOr IsLong _ = ⊥
 
--- the most bytes of an element that is no list, and no text of more than 1,000 bytes
+-- the most bytes of a text of 1,000 bytes in quotes, each of which may be escaped by six; no other element but a list has more
 abbrev pub short_element : ℕ
-short_element = 6002
+short_element = 6 * 1000 + 2
 
--- the most bytes of the operands of an action, each such an element or a number, with their commas
+-- the most bytes of such an element and of a number that isn't below 0, each with a comma: no action has longer operands
 abbrev pub short_operands : ℕ
-short_operands = 6014
+short_operands = short_element + 1 + (10 + 1)
 
--- the most bytes of a location with such arguments
+-- the most bytes of a name in quotes and of such arguments, each with a comma, and of the brackets of the location
 abbrev pub short_place : ℕ
-short_place = 48412
+short_place = (6 * name_limit + 2) + args_limit * (short_element + 1) + 2
 
--- the most bytes of an instruction at such a location, with such operands
+-- the most bytes of an instruction at such a location, with such operands, with 59 for its verb and its signs
 abbrev pub short_instruction : ℕ
-short_instruction = 54485
+short_instruction = short_place + short_operands + 59
 
--- the most bytes of a declared read of such a location
+-- the most bytes of a declared read of such a location, with its number and 3 for its signs
 abbrev pub short_read : ℕ
-short_read = 48425
+short_read = short_place + 10 + 3

@@ -21,6 +21,7 @@ mod handle;
 mod holding;
 pub mod instructing;
 pub mod journals;
+pub mod laws;
 pub mod learning;
 mod line_room;
 mod long_lines;
