@@ -216,20 +216,24 @@ class Saving(Rooms):
     def test_sigterm_ends_the_with(self):
         code = """
 import sys, time
-from concurrent.futures import ThreadPoolExecutor, wait
+from concurrent.futures import ThreadPoolExecutor
+from threading import Event
 from folugben import Error, Run
 def work(own):
     with run.agent(own) as agent:
         while True:
             agent.play(lambda step: step.push([["inc", ["count"], 1]]))
 with Run(sys.argv[1], [[["count"], 0]]) as run, ThreadPoolExecutor() as pool:
-    lives = [pool.submit(work, own) for own in range(2)]
+    for own in range(2):
+        pool.submit(work, own)
+    # An event of its own: an exit from within `wait` of futures may hold the locks that their threads need to end.
+    idle = Event()
     while run.state()[0] < 100:
         time.sleep(0.01)
     print("begun", flush=True)
     # Python handles a signal that arrives just before it blocks only afterwards.
     while True:
-        wait(lives, 1) if sys.argv[2] == "wait" else time.sleep(1)
+        idle.wait(1) if sys.argv[2] == "wait" else time.sleep(1)
 """
         for how in "wait", "sleep":
             path = self.room / how
