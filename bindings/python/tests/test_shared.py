@@ -66,8 +66,11 @@ class Leads:
         class Alarm(Exception):
             pass
 
+        ready = False
+
         def alarm(*_):
-            raise Alarm
+            if ready:
+                raise Alarm
 
         was = signal.signal(signal.SIGALRM, alarm)
         self.addCleanup(signal.signal, signal.SIGALRM, was)
@@ -78,8 +81,10 @@ class Leads:
             for number in range(40):
                 try:
                     # During its wait, and before and after it.
+                    ready = True
                     signal.setitimer(signal.ITIMER_REAL, 0.0002 * (number % 10 + 1))
                     numbers.append(agent.play(raised)[0])
+                    ready = False
                 except Alarm:
                     raises += 1
                 finally:
